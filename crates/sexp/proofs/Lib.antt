@@ -1,0 +1,15 @@
+pub mod Runs
+pub mod Lexing
+pub mod Steps
+pub mod Decimal
+pub mod Canonical
+pub mod Complete
+pub mod Sound
+pub mod Listed
+pub mod Theory
+pub mod Scan
+pub mod Lengths
+pub mod Branches
+pub mod Stands
+pub mod Spanned
+pub mod Whole

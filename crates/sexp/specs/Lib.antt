@@ -1,0 +1,9 @@
+pub mod Elements
+pub mod Text
+pub mod Grammar
+pub mod Refusals
+pub mod Faults
+pub mod Reading
+pub mod Tokens
+pub mod Checks
+pub mod Laws

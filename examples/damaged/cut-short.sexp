@@ -1,0 +1,1 @@
+(4:tank1:7(8:setpoint4:1840)(5:holds(5:mash12:726:minute)(5:

@@ -1,0 +1,1 @@
+(4:tank1:7(8:setpoint4:1840)(5:holds(5:mash12:726:minute)(5:mash23:7806:minute))(5:probe(4:wort(5:curve4:18404:18404:1845))))
