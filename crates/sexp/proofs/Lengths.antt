@@ -11,7 +11,8 @@ use Rattle.std.proofs.shelf.Tests.{le-ltb, lt-ltb, eq-eqb, ne-eqb}
 use Rattle.sexp.specs.declared.refusals.Refusal.the-variants.{Malformed, OverLimit}
 use Rattle.sexp.specs.declared.tokens.Cursor.{Cursor}
 use Rattle.sexp.specs.Grammar.{value, valueAfter}
-use Rattle.sexp.specs.Reading.{digitAt, digits, behind, padded, Lexeme, body, stringAt, string, fault}
+use Rattle.sexp.specs.Reading.{digits, behind, padded, Lexeme, body, stringAt, string, fault}
+use Rattle.sexp.specs.Checks.{digitAt}
 use Rattle.sexp.proofs.Scan.{more-digits, no-digits, value-grows}
 
 -- from `at` to `end` stand digits that write n

@@ -45,6 +45,9 @@ over-not depth count h = grind (arith, tells)
 pub over-is : (depth count : ℕ) → (Due depth count → ⊥) → complete depth count ≡ true
 over-is depth count h = grind (arith, tells)
 
+pub cases-due : (depth count : ℕ) → Due depth count ⊎ (Due depth count → ⊥)
+cases-due depth count = grind (arith, tells)
+
 pub full-true : (depth count : ℕ) → full depth count ≡ true → Room depth count → ⊥
 full-true depth count e h = grind (arith, tells)
 

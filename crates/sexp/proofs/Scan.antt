@@ -10,7 +10,8 @@ use lib.ListN.{length, drop, getD}
 use Rattle.std.proofs.shelf.Lists.{drop-more, drop-all}
 use Rattle.std.proofs.shelf.Tests.{ltb-true, ltb-false, lt-ltb, le-ltb, and-parts, and-cases, eq-eqb, ne-eqb}
 use Rattle.sexp.specs.Grammar.{valueAfter}
-use Rattle.sexp.specs.Reading.{isDigit, digitAt, digits, behind, padded}
+use Rattle.sexp.specs.Reading.{isDigit, digits, behind, padded}
+use Rattle.sexp.specs.Checks.{digitAt}
 use Rattle.sexp.proofs.Lexing.{digit-true, digit-false, digits-yes, digits-no, behind-yes, behind-no}
 
 -- where a digit stands, the digits go on behind it

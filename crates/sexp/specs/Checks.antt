@@ -1,8 +1,10 @@
--- What the reader's own functions find in a text. Assumes nothing.
+-- What the private functions of the tokens and of the reader tell. Assumes nothing.
 use Prim.Native.Nat.{ℕ, _+_, _-_, _≤_, _<_, max}
+use mathlib.Core.Bool.{Bool, _&&_}
 use mathlib.Core.Path.{_≡_}
 use mathlib.Core.List.{List}
-use lib.ListN.{length, drop}
+use lib.Dec.{ltb}
+use lib.ListN.{length, drop, getD}
 use Rattle.std.specs.declared.result.Result.{Result}
 use Rattle.std.specs.declared.result.Result.the-variants.{Ok, Err}
 use Rattle.sexp.specs.declared.reader.Found.{Found}
@@ -10,8 +12,18 @@ use Rattle.sexp.specs.declared.reader.Found.the-variants.{Element, Close}
 use Rattle.sexp.specs.declared.reader.Progress.{Progress}
 use Rattle.sexp.specs.declared.refusals.Refusal.{Refusal}
 use Rattle.sexp.specs.declared.tokens.Cursor.{Cursor}
+use Rattle.sexp.specs.declared.tokens.Length.{Length}
 use Rattle.sexp.specs.Elements.{Elements, Record, count, depth}
-use Rattle.sexp.specs.Reading.{Reading, refused, onward, closed, reading}
+use Rattle.sexp.specs.Reading.{isDigit, Lexeme, fault, body, Reading, refused, onward, closed, reading}
+
+-- a digit stands at an offset
+abbrev pub digitAt : List ℕ → ℕ → Bool
+digitAt text at = ltb at (length text) && isDigit (getD text at 0)
+
+-- r tells the length at `at`, as what is left of the string l to read; or the fault
+abbrev pub TellsLength : List ℕ → ℕ → Lexeme → Result Length Refusal → Type 0
+TellsLength text at l (Ok n) = (l ≡ body (length text) (n .end) (n .end - at) (n .value) (drop (n .end) text)) × (at ≤ n .end) × (n .end ≤ length text) × (n .value ≤ 1024)
+TellsLength text at l (Err k) = l ≡ fault k
 
 -- what a text holds from a cursor on
 abbrev pub readingFrom : List ℕ → Cursor → Reading

@@ -3,7 +3,7 @@ use Prim.Native.Nat.{ℕ, zero, suc, _+_, _-_}
 use mathlib.Core.Bool.{Bool, true, false, cond, not, _&&_, _||_}
 use mathlib.Core.List.{List, [], _∷_}
 use lib.Dec.{eqb, leb, ltb}
-use lib.ListN.{length, take, getD}
+use lib.ListN.{length, take}
 use Rattle.sexp.specs.declared.refusals.Refusal.{Refusal}
 use Rattle.sexp.specs.declared.refusals.Refusal.the-variants.{TextLength, Malformed, OverLimit}
 use Rattle.sexp.specs.Elements.{octets, Elements, none, atom, list, _then_}
@@ -11,9 +11,6 @@ use Rattle.sexp.specs.Grammar.{value}
 
 abbrev pub isDigit : ℕ → Bool
 isDigit o = leb 48 o && leb o 57
-
-abbrev pub digitAt : List ℕ → ℕ → Bool
-digitAt text at = ltb at (length text) && isDigit (getD text at 0)
 
 -- the digits at the front of a text, and what stands behind them
 abbrev pub digits : List ℕ → List ℕ
@@ -51,7 +48,7 @@ stringAt end at ds rest =
     (cond (ltb 1024 (value ds)) (fault (OverLimit at))
     (body end (at + length ds) (length ds) (value ds) rest))
 
--- the root is complete where depth lists are open and count elements have begun
+-- the root has been read to its end: an element has begun, and no list is open
 abbrev pub complete : (depth count : ℕ) → Bool
 complete depth count = eqb depth 0 && ltb 0 count
 
@@ -82,7 +79,7 @@ pub data Reading : Type 0 where
   refused : Refusal → Reading
   read : List Elements → Reading
 
--- es and then what is left of the innermost list
+-- es, and then what is left of the innermost list
 abbrev pub before : Elements → List Elements → List Elements
 before es [] = []
 before es (x ∷ rests) = (es then x) ∷ rests
@@ -92,14 +89,17 @@ abbrev pub nested : List Elements → List Elements
 nested [] = []
 nested (inner ∷ rests) = before (list inner none) rests
 
+-- what is read where es stands in front of what is read behind it
 abbrev pub onward : Elements → Reading → Reading
 onward es (refused r) = refused r
 onward es (read rests) = read (before es rests)
 
+-- what is read at an opening, from what is read behind it
 abbrev pub opened : Reading → Reading
 opened (refused r) = refused r
 opened (read rests) = read (nested rests)
 
+-- what is read at a closing, from what is read behind it
 abbrev pub closed : Reading → Reading
 closed (refused r) = refused r
 closed (read rests) = read (none ∷ rests)
@@ -122,6 +122,7 @@ pub data Verdict : Type 0 where
   accepted : Elements → Verdict
   rejected : Refusal → Verdict
 
+-- the root is all that is left at the start of a text
 abbrev pub concluded : Reading → Verdict
 concluded (refused r) = rejected r
 concluded (read []) = accepted none

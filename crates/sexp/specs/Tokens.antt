@@ -1,19 +1,21 @@
 -- What is told of the token at a cursor. Assumes nothing.
 use Prim.Native.Nat.{ℕ, _+_, _-_, _≤_}
+use mathlib.Core.Logic.{_⊎_}
 use mathlib.Core.Path.{_≡_}
 use mathlib.Core.List.{List, [], _∷_, _++_}
 use lib.ListN.{length, drop}
 use Rattle.std.specs.declared.result.Result.{Result}
 use Rattle.std.specs.declared.result.Result.the-variants.{Ok, Err}
 use Rattle.sexp.specs.declared.refusals.Refusal.{Refusal}
+use Rattle.sexp.specs.declared.refusals.Refusal.the-variants.{Malformed}
 use Rattle.sexp.specs.declared.tokens.Cursor.{Cursor}
-use Rattle.sexp.specs.declared.tokens.Length.{Length}
 use Rattle.sexp.specs.declared.tokens.Step.{Step}
 use Rattle.sexp.specs.declared.tokens.Token.{Token}
 use Rattle.sexp.specs.declared.tokens.Token.the-variants.{Opening, Closing, Atom}
 use Rattle.sexp.specs.Elements.{octets}
 use Rattle.sexp.specs.Text.{atomThen}
-use Rattle.sexp.specs.Reading.{Lexeme, opening, closing, string, fault, body, lexeme}
+use Rattle.sexp.specs.Faults.{Due, Fault}
+use Rattle.sexp.specs.Reading.{Lexeme, opening, closing, string, fault, lexeme}
 
 -- the token that the list of faults and the limits leave at a cursor
 abbrev pub lexemeAt : List ℕ → Cursor → Lexeme
@@ -29,6 +31,10 @@ abbrev pub Tells : Cursor → Lexeme → Result Step Refusal → Type 0
 Tells from l (Ok s) = TellsToken from l (s .token) (s .next)
 Tells from l (Err k) = l ≡ fault k
 
+-- the text has ended, and the root is complete
+abbrev pub Exhausted : List ℕ → Cursor → Refusal → Type 0
+Exhausted text from k = (length text ≤ from .at) × (Due (from .depth) (from .count) → ⊥) × (k ≡ Malformed (length text))
+
 -- a token's text
 abbrev pub spelled : Token → List ℕ
 spelled (Opening at) = 40 ∷ []
@@ -40,7 +46,6 @@ abbrev pub Stands-in-text : List ℕ → Cursor → Result Step Refusal → Type
 Stands-in-text text from (Ok s) = drop (from .at) text ≡ spelled (s .token) ++ drop (s .next .at) text
 Stands-in-text text from (Err k) = Unit {0}
 
--- r tells the length at `at`, as what is left of the string l to read; or the fault
-abbrev pub TellsLength : List ℕ → ℕ → Lexeme → Result Length Refusal → Type 0
-TellsLength text at l (Ok n) = (l ≡ body (length text) (n .end) (n .end - at) (n .value) (drop (n .end) text)) × (at ≤ n .end) × (n .end ≤ length text) × (n .value ≤ 1024)
-TellsLength text at l (Err k) = l ≡ fault k
+-- at a cursor a call is refused exactly by the list of faults; and where the text has ended behind a complete root, since no token is left
+abbrev pub Faults-as-listed : List ℕ → Cursor → Result Step Refusal → Type 0
+Faults-as-listed text from r = (k : Refusal) → (r ≡ Err k → Fault (length text) (from .at) (from .depth) (from .count) (drop (from .at) text) k ⊎ Exhausted text from k) × (Fault (length text) (from .at) (from .depth) (from .count) (drop (from .at) text) k ⊎ Exhausted text from k → r ≡ Err k)

@@ -3,8 +3,9 @@ ghost use mathlib.Core.Bool.{true};
 ghost use mathlib.Core.Path.{_≡_};
 ghost use Prim.Native.Nat.{_<_};
 ghost use lib.ListN.{length, drop};
-ghost use Rattle.sexp.specs.Reading.{isDigit, digitAt, digits, behind, padded, stringAt, begins, complete, full, closes};
-ghost use Rattle.sexp.specs.Tokens.{lexemeAt, Tells, TellsLength, Stands-in-text};
+ghost use Rattle.sexp.specs.Checks.{digitAt, TellsLength};
+ghost use Rattle.sexp.specs.Reading.{isDigit, digits, behind, padded, stringAt, begins, complete, full, closes};
+ghost use Rattle.sexp.specs.Tokens.{lexemeAt, Tells, Stands-in-text, Faults-as-listed};
 use crate::refusals::Refusal;
 
 // The limits of a record.
@@ -152,6 +153,7 @@ impl Cursor {
 pub fn next<'a>(text: &'a [u8], from: Cursor) -> Result<Step<'a>, Refusal>
     ensures token { λ r. ⌜ Tells from (lexemeAt (now (text .entry)) from) r ⌝ }
     ensures rest { λ r. ⌜ Stands-in-text (now (text .entry)) from r ⌝ }
+    ensures faults { λ r. ⌜ Faults-as-listed (now (text .entry)) from r ⌝ }
 {
     let at = from.at;
     if at >= text.len() {
