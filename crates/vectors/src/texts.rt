@@ -12,7 +12,7 @@ use std::alloc::Global;
 use std::io;
 
 // Texts that are accepted, with the elements and the depth of their records. The first nine are examples that RFC 9804 gives of
-// verbatim strings and of the canonical form, as they are remembered: no copy of the RFC was at hand.
+// verbatim strings and of the canonical form. They were not compared with the RFC itself, of which no copy was at hand.
 const ACCEPTED: [(&str, usize, usize); 11] = [
     ("3:abc", 1, 1),
     ("7:subject", 1, 1),
