@@ -24,9 +24,6 @@ pub record Sofar (t : List ℕ) (at end n : ℕ) : Type 0 where
   pub after : behind (drop at t) ≡ behind (drop end t)
   pub long : length (digits (drop at t)) ≡ (end - at) + length (digits (drop end t))
 
-pub begun : (t : List ℕ) (at : ℕ) → at ≤ length t → Sofar t at at 0
-begun t at l = record { forward = omega arith; inside = l; small = omega arith; worth = refl; after = refl; long = omega arith }
-
 module _ (t : List ℕ) (at end n : ℕ) (h : Sofar t at end n) where
   -- one digit more
   worth-more : digitAt t end ≡ true → value (digits (drop at t)) ≡ valueAfter (n * 10 + (getD t end 0 - 48)) (digits (drop (end + 1) t))
@@ -54,9 +51,6 @@ module _ (t : List ℕ) (at end n : ℕ) (h : Sofar t at end n) where
       let l : length (digits (drop at t)) ≡ end - at = omega (arith, h .long, ap length (o .ahead)) in
       let s : at + (end - at) ≡ end = omega (arith, h .forward) in
       rw (p, w, le-ltb 1024 n (h .small), l, s, h .after ∙ o .after) refl
-
-pub padded-fault : (t : List ℕ) (last at : ℕ) → padded (digits (drop at t)) ≡ true → stringAt last at (digits (drop at t)) (behind (drop at t)) ≡ fault (Malformed at)
-padded-fault t last at p = rw p refl
 
 -- what follows the digits: the end of the text, a wrong octet, too few octets, or all of them
 module _ (t : List ℕ) (last e k n : ℕ) where

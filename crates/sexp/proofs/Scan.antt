@@ -47,13 +47,13 @@ no-digits t i e =
         let gone = drop-all i t (ltb-false i (length t) l) in
         record { ahead = ap digits gone; after = ap behind gone ∙ sym gone }
 
--- several digits stand at i exactly if a digit stands behind the first
-several : (t : List ℕ) (i : ℕ) (b : Bool) → digitAt t i ≡ b → ltb 0 (length (digits (drop i t))) ≡ b
-several t i true e = ap (λ ds. ltb 0 (length ds)) (more-digits t i e .ahead) ∙ lt-ltb 0 (length (getD t i 0 ∷ digits (drop (i + 1) t))) (omega arith)
-several t i false e = ap (λ ds. ltb 0 (length ds)) (no-digits t i e .ahead) ∙ le-ltb 0 0 (omega arith)
+-- there are digits at i exactly if a digit stands there
+some-digits : (t : List ℕ) (i : ℕ) (b : Bool) → digitAt t i ≡ b → ltb 0 (length (digits (drop i t))) ≡ b
+some-digits t i true e = ap (λ ds. ltb 0 (length ds)) (more-digits t i e .ahead) ∙ lt-ltb 0 (length (getD t i 0 ∷ digits (drop (i + 1) t))) (omega arith)
+some-digits t i false e = ap (λ ds. ltb 0 (length ds)) (no-digits t i e .ahead) ∙ le-ltb 0 0 (omega arith)
 
 padded-at : (t : List ℕ) (i : ℕ) → digitAt t i ≡ true → padded (digits (drop i t)) ≡ (eqb (getD t i 0) 48 && digitAt t (i + 1))
-padded-at t i e = ap padded (more-digits t i e .ahead) ∙ ap (λ b. eqb (getD t i 0) 48 && b) (several t (i + 1) (digitAt t (i + 1)) refl)
+padded-at t i e = ap padded (more-digits t i e .ahead) ∙ ap (λ b. eqb (getD t i 0) 48 && b) (some-digits t (i + 1) (digitAt t (i + 1)) refl)
 
 pub padded-zero : (t : List ℕ) (i : ℕ) → digitAt t i ≡ true → getD t i 0 ≡ 48 → padded (digits (drop i t)) ≡ digitAt t (i + 1)
 padded-zero t i e z = padded-at t i e ∙ ap (λ b. b && digitAt t (i + 1)) (eq-eqb (getD t i 0) 48 z)

@@ -1,6 +1,6 @@
--- What the reader has passed: an element, the end of a list, a run, a whole list, a whole text. Assumes nothing.
+-- What the reader has passed: an element, the end of a list, a run, a whole list. Assumes nothing.
 use Prim.Native.Nat.{ℕ, _+_, _-_, _≤_, _<_, max}
-use mathlib.Core.List.{List, [], _∷_}
+use mathlib.Core.List.{List}
 use mathlib.Core.Logic.{⊎-elim}
 use mathlib.Core.Path.{_≡_, refl, sym, ap, _∙_}
 use native.Mathlib.Omega.{arith}
@@ -12,12 +12,11 @@ use Rattle.sexp.specs.declared.refusals.Refusal.{Refusal}
 use Rattle.sexp.specs.declared.refusals.Refusal.the-variants.{Malformed}
 use Rattle.sexp.specs.declared.tokens.Cursor.{Cursor}
 use Rattle.sexp.specs.Elements.{octets, Elements, none, atom, list, _then_, Record, count, depth}
-use Rattle.sexp.specs.Reading.{Lexeme, opening, closing, string, fault, lexeme, refused, onward, opened, closed, reading}
+use Rattle.sexp.specs.Reading.{Lexeme, opening, closing, string, fault, refused, onward, opened, closed, reading}
 use Rattle.sexp.specs.Tokens.{lexemeAt}
 use Rattle.sexp.specs.Checks.{readingFrom, Spans, Closes, Lists}
 use Rattle.sexp.proofs.Runs.{count-then, depth-then, onward-none, onward-then, opened-closed}
-use Rattle.sexp.proofs.Lexing.{Told, told}
-use Rattle.sexp.proofs.Steps.{step-opening, step-closing, step-string, string-fits}
+use Rattle.sexp.proofs.Steps.{says, step-opening, step-closing, step-string, string-fits}
 use Rattle.sexp.proofs.Branches.{past-end}
 
 -- a token that is no fault stands inside the text
@@ -28,32 +27,22 @@ module _ (t : List ℕ) (from : Cursor) where
   moved : (k : ℕ) → drop k (drop (from .at) t) ≡ drop (from .at + k) t
   moved k = drop-drop k (from .at) t
 
-  pub opens : lexemeAt t from ≡ opening → (readingFrom t from ≡ opened (readingFrom t (record { at = from .at + 1; depth = from .depth + 1; count = from .count + 1 }))) × (from .at < length t)
+  opens : lexemeAt t from ≡ opening → (readingFrom t from ≡ opened (readingFrom t (record { at = from .at + 1; depth = from .depth + 1; count = from .count + 1 }))) × (from .at < length t)
   opens e = (
     step-opening (length t) (from .depth) (from .count) (from .at) (drop (from .at) t) e ∙ ap (λ r. opened (reading (length t) 0 (from .depth + 1) (from .count + 1) (from .at + 1) r)) (moved 1),
     inside opening e (λ k p. let z : _≡_ {A = ℕ} 0 1 = cc in omega arith),
   )
 
-  pub ends-list : lexemeAt t from ≡ closing → (readingFrom t from ≡ closed (readingFrom t (record { at = from .at + 1; depth = from .depth - 1; count = from .count }))) × (from .at < length t)
+  ends-list : lexemeAt t from ≡ closing → (readingFrom t from ≡ closed (readingFrom t (record { at = from .at + 1; depth = from .depth - 1; count = from .count }))) × (from .at < length t)
   ends-list e = (
     step-closing (length t) (from .depth) (from .count) (from .at) (drop (from .at) t) e ∙ ap (λ r. closed (reading (length t) 0 (from .depth - 1) (from .count) (from .at + 1) r)) (moved 1),
     inside closing e (λ k p. let z : _≡_ {A = ℕ} 0 1 = cc in omega arith),
   )
 
-  pub was-open : lexemeAt t from ≡ closing → 0 < from .depth
-  was-open = go (drop (from .at) t)
-    where
-      go : (s : List ℕ) → lexeme (length t) (from .depth) (from .count) (from .at) s ≡ closing → 0 < from .depth
-      go [] e = let z : _≡_ {A = ℕ} 0 1 = cc in absurd (omega arith)
-      go (o ∷ rest) e = view (told (length t) (from .at) (from .depth) (from .count) o rest) e
-        where
-          view : {l : Lexeme} → Told (length t) (from .at) (from .depth) (from .count) (o ∷ rest) l → l ≡ closing → 0 < from .depth
-          view (Told.opening r f due room) p = let z : _≡_ {A = ℕ} 0 1 = cc in absurd (omega arith)
-          view (Told.closing r f h) p = h
-          view (Told.string ds xs r f d l due room) p = let z : _≡_ {A = ℕ} 0 1 = cc in absurd (omega arith)
-          view (Told.fault f) p = let z : _≡_ {A = ℕ} 0 1 = cc in absurd (omega arith)
+  was-open : lexemeAt t from ≡ closing → 0 < from .depth
+  was-open e = says (length t) (from .depth) (from .count) (from .at) (drop (from .at) t) closing e .2
 
-  pub passes : (os : List ℕ) (more : ℕ) → lexemeAt t from ≡ string os more → (readingFrom t from ≡ onward (atom (octets os) none) (readingFrom t (record { at = from .at + (more + 1); depth = from .depth; count = from .count + 1 }))) × (from .at + (more + 1) ≤ length t)
+  passes : (os : List ℕ) (more : ℕ) → lexemeAt t from ≡ string os more → (readingFrom t from ≡ onward (atom (octets os) none) (readingFrom t (record { at = from .at + (more + 1); depth = from .depth; count = from .count + 1 }))) × (from .at + (more + 1) ≤ length t)
   passes os more e = (
     step-string (length t) (from .depth) (from .count) (from .at) (drop (from .at) t) os more e ∙ ap (λ r. onward (atom (octets os) none) (reading (length t) 0 (from .depth) (from .count + 1) (from .at + (more + 1)) r)) (moved (more + 1)),
     omega (arith, string-fits (length t) (from .depth) (from .count) (from .at) (drop (from .at) t) os more e .0, length-drop (from .at) t),

@@ -1,61 +1,37 @@
 -- A token that was told stands in the text, and the rest begins behind it. Assumes nothing.
-use Prim.Native.Nat.{ℕ, _+_, _≤_, _<_}
+use Prim.Native.Nat.{ℕ, _+_}
 use mathlib.Core.List.{List, [], _∷_, _++_, append-assoc, append-nil}
-use mathlib.Core.Logic.{_⊎_, inl, inr, ⊎-elim}
-use mathlib.Core.Path.{_≡_, sym, ap, subst, subst₂, _∙_}
+use mathlib.Core.Logic.{inl, inr, ⊎-elim}
+use mathlib.Core.Path.{_≡_, sym, ap, subst, _∙_}
 use native.Mathlib.Omega.{arith}
 use lib.ListN.{length, drop, length-drop}
 use Rattle.std.specs.declared.result.Result.{Result}
 use Rattle.std.specs.declared.result.Result.the-variants.{Ok, Err}
 use Rattle.std.specs.Written.{decimal}
-use Rattle.std.proofs.shelf.Lists.{drop-drop, drop-at, drop-all, length-append}
-use Rattle.std.proofs.shelf.Tests.{cases-lt}
+use Rattle.std.proofs.shelf.Lists.{drop-drop, drop-at, length-append}
 use Rattle.sexp.specs.declared.refusals.Refusal.{Refusal}
-use Rattle.sexp.specs.declared.refusals.Refusal.the-variants.{Malformed}
 use Rattle.sexp.specs.declared.tokens.Cursor.{Cursor}
 use Rattle.sexp.specs.declared.tokens.Step.{Step}
 use Rattle.sexp.specs.declared.tokens.Token.{Token}
 use Rattle.sexp.specs.declared.tokens.Token.the-variants.{Opening, Closing, Atom}
 use Rattle.sexp.specs.Elements.{octets}
 use Rattle.sexp.specs.Text.{atomThen}
-use Rattle.sexp.specs.Faults.{Fault}
-use Rattle.sexp.specs.Reading.{Lexeme, opening, closing, string, fault, lexeme}
-use Rattle.sexp.specs.Tokens.{lexemeAt, TellsToken, Tells, spelled, Exhausted, Stands-in-text, Faults-as-listed}
+use Rattle.sexp.specs.Reading.{opening, closing, string, fault}
+use Rattle.sexp.specs.Tokens.{lexemeAt, TellsToken, Tells, spelled, FaultAt, Stands-in-text, Faults-as-listed}
 use Rattle.sexp.proofs.Decimal.{decimal-text}
-use Rattle.sexp.proofs.Lexing.{Told, told, lex-fault, cases-due}
+use Rattle.sexp.proofs.Lexing.{lex-fault}
 use Rattle.sexp.proofs.Branches.{past-end}
-use Rattle.sexp.proofs.Steps.{strung}
-
--- what stands at the front of a text whose token is an opening or a closing
-opening-front : (end depth count at : ℕ) (s : List ℕ) → lexeme end depth count at s ≡ opening → (rest : List ℕ) × (s ≡ 40 ∷ rest)
-opening-front end depth count at [] e = let z : _≡_ {A = ℕ} 0 1 = cc in absurd (omega arith)
-opening-front end depth count at (o ∷ rest) e = view (told end at depth count o rest) e
-  where
-    view : {l : Lexeme} → Told end at depth count (o ∷ rest) l → l ≡ opening → (r : List ℕ) × (o ∷ rest ≡ 40 ∷ r)
-    view (Told.opening r f due room) p = (r, f)
-    view (Told.closing r f h) p = let z : _≡_ {A = ℕ} 0 1 = cc in absurd (omega arith)
-    view (Told.string ds xs r f d l due room) p = let z : _≡_ {A = ℕ} 0 1 = cc in absurd (omega arith)
-    view (Told.fault f) p = let z : _≡_ {A = ℕ} 0 1 = cc in absurd (omega arith)
-
-closing-front : (end depth count at : ℕ) (s : List ℕ) → lexeme end depth count at s ≡ closing → (rest : List ℕ) × (s ≡ 41 ∷ rest)
-closing-front end depth count at [] e = let z : _≡_ {A = ℕ} 0 1 = cc in absurd (omega arith)
-closing-front end depth count at (o ∷ rest) e = view (told end at depth count o rest) e
-  where
-    view : {l : Lexeme} → Told end at depth count (o ∷ rest) l → l ≡ closing → (r : List ℕ) × (o ∷ rest ≡ 41 ∷ r)
-    view (Told.opening r f due room) p = let z : _≡_ {A = ℕ} 0 1 = cc in absurd (omega arith)
-    view (Told.closing r f h) p = (r, f)
-    view (Told.string ds xs r f d l due room) p = let z : _≡_ {A = ℕ} 0 1 = cc in absurd (omega arith)
-    view (Told.fault f) p = let z : _≡_ {A = ℕ} 0 1 = cc in absurd (omega arith)
+use Rattle.sexp.proofs.Steps.{says, strung}
 
 module _ (t : List ℕ) (from : Cursor) where
   rest-of : (o : ℕ) (rest : List ℕ) → drop (from .at) t ≡ o ∷ rest → drop (from .at) t ≡ o ∷ drop (from .at + 1) t
   rest-of o rest e = e ∙ ap (o ∷_) (sym (sym (drop-drop 1 (from .at) t) ∙ ap (drop 1) e))
 
   stands-opening : lexemeAt t from ≡ opening → drop (from .at) t ≡ 40 ∷ drop (from .at + 1) t
-  stands-opening e = let f = opening-front (length t) (from .depth) (from .count) (from .at) (drop (from .at) t) e in rest-of 40 (f .0) (f .1)
+  stands-opening e = let f = says (length t) (from .depth) (from .count) (from .at) (drop (from .at) t) opening e in rest-of 40 (f .0) (f .1)
 
   stands-closing : lexemeAt t from ≡ closing → drop (from .at) t ≡ 41 ∷ drop (from .at + 1) t
-  stands-closing e = let f = closing-front (length t) (from .depth) (from .count) (from .at) (drop (from .at) t) e in rest-of 41 (f .0) (f .1)
+  stands-closing e = let f = says (length t) (from .depth) (from .count) (from .at) (drop (from .at) t) closing e in rest-of 41 (f .0) (f .1)
 
   stands-atom : (os : List ℕ) (more : ℕ) → lexemeAt t from ≡ string os more → drop (from .at) t ≡ atomThen (octets os) [] ++ drop (from .at + (more + 1)) t
   stands-atom os more e =
@@ -78,9 +54,6 @@ module _ (t : List ℕ) (from : Cursor) where
 
 -- a call at a cursor is refused exactly as listed
 module _ (t : List ℕ) (from : Cursor) where
-  abbrev At : Refusal → Type 0
-  At k = Fault (length t) (from .at) (from .depth) (from .count) (drop (from .at) t) k ⊎ Exhausted t from k
-
   token-no-fault : (token : Token) (next : Cursor) (k : Refusal) → TellsToken from (lexemeAt t from) token next → lexemeAt t from ≡ fault k → ⊥
   token-no-fault (Opening offset) next k h e = let f = h .0 in let z : _≡_ {A = ℕ} 0 1 = cc in omega arith
   token-no-fault (Closing offset) next k h e = let f = h .0 in let z : _≡_ {A = ℕ} 0 1 = cc in omega arith
@@ -90,34 +63,15 @@ module _ (t : List ℕ) (from : Cursor) where
   told-fault (Err j) k h e = let same : j ≡ k = cc in ap Err same
   told-fault (Ok s) k h e = absurd (token-no-fault (s .token) (s .next) k h e)
 
-  listed : (k : Refusal) → At k → lexemeAt t from ≡ fault k
+  listed : (k : Refusal) → FaultAt t from k → lexemeAt t from ≡ fault k
   listed k (inl f) = lex-fault (length t) (from .depth) (from .count) (from .at) f
   listed k (inr x) = past-end t from (x .0) ∙ ap fault (sym (x .2))
 
-  at-end : (k : Refusal) → length t ≤ from .at → lexemeAt t from ≡ fault k → At k
-  at-end k past e =
-      let same : k ≡ Malformed (length t) = cc (past-end t from past, e) in
-      ⊎-elim
-      (λ due. inl (subst₂ (λ s j. Fault (length t) (from .at) (from .depth) (from .count) s j) (sym (drop-all (from .at) t past)) (sym same) (Fault.ends due)))
-      (λ over. inr (past, over, same))
-      (cases-due (from .depth) (from .count))
-
-  inside : (s : List ℕ) (k : Refusal) → 0 < length s → lexeme (length t) (from .depth) (from .count) (from .at) s ≡ fault k → Fault (length t) (from .at) (from .depth) (from .count) s k
-  inside [] k l e = absurd (omega arith)
-  inside (o ∷ rest) k l e = view (told (length t) (from .at) (from .depth) (from .count) o rest) e
-    where
-      view : {l : Lexeme} → Told (length t) (from .at) (from .depth) (from .count) (o ∷ rest) l → l ≡ fault k → Fault (length t) (from .at) (from .depth) (from .count) (o ∷ rest) k
-      view (Told.opening r f due room) p = let z : _≡_ {A = ℕ} 0 1 = cc in absurd (omega arith)
-      view (Told.closing r f h) p = let z : _≡_ {A = ℕ} 0 1 = cc in absurd (omega arith)
-      view (Told.string ds xs r f d l due room) p = let z : _≡_ {A = ℕ} 0 1 = cc in absurd (omega arith)
-      view (Told.fault {r} f) p = let same : r ≡ k = cc in subst (Fault (length t) (from .at) (from .depth) (from .count) (o ∷ rest)) same f
-
-  unlisted : (k : Refusal) → lexemeAt t from ≡ fault k → At k
+  unlisted : (k : Refusal) → lexemeAt t from ≡ fault k → FaultAt t from k
   unlisted k e =
-      ⊎-elim
-      (λ (l : from .at < length t). inl (inside (drop (from .at) t) k (simp length-drop (omega arith)) e))
-      (λ past. at-end k past e)
-      (cases-lt (from .at) (length t))
+      ⊎-elim inl
+      (λ x. inr (omega (arith, length-drop (from .at) t, ap length (x .0)), x .1, x .2))
+      (says (length t) (from .depth) (from .count) (from .at) (drop (from .at) t) (fault k) e)
 
   is-fault : (r : Result Step Refusal) (k : Refusal) → Tells from (lexemeAt t from) r → r ≡ Err k → lexemeAt t from ≡ fault k
   is-fault r k h e = subst (Tells from (lexemeAt t from)) e h

@@ -1,8 +1,8 @@
 -- Reading, a token at a time: what follows from the token at the front. Assumes nothing.
 use Prim.Native.Nat.{ℕ, zero, suc, _+_, _-_, _≤_, _<_}
 use mathlib.Core.Bool.{true, false, _||_}
-use mathlib.Core.Path.{_≡_, ap, ap₂, _∙_, sym}
-use mathlib.Core.Logic.{_⊎_}
+use mathlib.Core.Path.{_≡_, refl, ap, ap₂, subst, _∙_, sym}
+use mathlib.Core.Logic.{_⊎_, inl, inr, ⊎-elim}
 use mathlib.Core.List.{List, [], _∷_, _++_, append-assoc}
 use lib.Dec.{eqb, ltb}
 use lib.ListN.{length, drop}
@@ -14,9 +14,9 @@ use Rattle.sexp.specs.declared.refusals.Refusal.{Refusal}
 use Rattle.sexp.specs.declared.refusals.Refusal.the-variants.{TextLength, Malformed}
 use Rattle.sexp.specs.Elements.{octets, none, atom, Sized}
 use Rattle.sexp.specs.Grammar.{Decimal}
-use Rattle.sexp.specs.Faults.{Due, Room}
+use Rattle.sexp.specs.Faults.{Due, Room, Fault}
 use Rattle.sexp.specs.Reading.{Lexeme, opening, closing, string, fault, lexeme, refused, read, onward, opened, closed, reading, concluded, verdict, rejected}
-use Rattle.sexp.proofs.Lexing.{Told, told, over-not, over-is, lex-atom}
+use Rattle.sexp.proofs.Lexing.{Told, told, cases-due, over-not, over-is, lex-atom}
 
 -- what is known of a string token
 pub record Strung (depth count : ℕ) (t os : List ℕ) (more : ℕ) : Type 0 where
@@ -30,23 +30,30 @@ pub record Strung (depth count : ℕ) (t os : List ℕ) (more : ℕ) : Type 0 wh
   pub extent : more ≡ length ds + length os
   pub within : more < length t
 
+-- what a token says of the text that it stands at the front of
+abbrev pub Says : (end at depth count : ℕ) (t : List ℕ) → Lexeme → Type 0
+Says end at depth count t opening = (rest : List ℕ) × (t ≡ 40 ∷ rest) × Due depth count × Room depth count
+Says end at depth count t closing = (rest : List ℕ) × (t ≡ 41 ∷ rest) × (0 < depth)
+Says end at depth count t (string os more) = Strung depth count t os more
+Says end at depth count t (fault r) = Fault end at depth count t r ⊎ ((t ≡ []) × (Due depth count → ⊥) × (r ≡ Malformed end))
+
+said-by : {end at depth count : ℕ} {t : List ℕ} {x : Lexeme} → Told end at depth count t x → Says end at depth count t x
+said-by (Told.opening rest f due room) = (rest, f, due, room)
+said-by (Told.closing rest f h) = (rest, f, h)
+said-by (Told.string ds os rest f d l due room) =
+    record { ds = ds; rest = rest; front = f; writes = d; short = l; due = due; room = room; extent = refl; within = omega (arith, simp length-append at (ap length f)) }
+said-by (Told.fault f) = inl f
+
+pub said : (end depth count at : ℕ) (t : List ℕ) → Says end at depth count t (lexeme end depth count at t)
+said end depth count at [] = ⊎-elim (λ due. inl (Fault.ends due)) (λ over. inr (refl, over, refl)) (cases-due depth count)
+said end depth count at (o ∷ rest) = said-by (told end at depth count o rest)
+
+-- of a token that is known
+pub says : (end depth count at : ℕ) (t : List ℕ) (x : Lexeme) → lexeme end depth count at t ≡ x → Says end at depth count t x
+says end depth count at t x e = subst (Says end at depth count t) e (said end depth count at t)
+
 pub strung : (end depth count at : ℕ) (t os : List ℕ) (more : ℕ) → lexeme end depth count at t ≡ string os more → Strung depth count t os more
-strung end depth count at [] os more e = absurd (other e)
-  where
-    other : fault (Malformed end) ≡ string os more → ⊥
-    other p = let z : _≡_ {A = ℕ} 0 1 = cc in omega arith
-strung end depth count at (o ∷ rest) os more e = go (told end at depth count o rest) e
-  where
-    -- of a token that is a string, by its kind
-    go : {x : Lexeme} → Told end at depth count (o ∷ rest) x → x ≡ string os more → Strung depth count (o ∷ rest) os more
-    go (Told.opening r f due room) p = let z : _≡_ {A = ℕ} 0 1 = cc in absurd (omega arith)
-    go (Told.closing r f h) p = let z : _≡_ {A = ℕ} 0 1 = cc in absurd (omega arith)
-    go (Told.fault f) p = let z : _≡_ {A = ℕ} 0 1 = cc in absurd (omega arith)
-    go (Told.string ds xs r f d l due room) p =
-        let same : xs ≡ os = cc in
-        let extent : more ≡ length ds + length os = cc in
-        let sum : length (o ∷ rest) ≡ length ds + (1 + (length os + length r)) = ap length f ∙ simp (length-append, same) (omega arith) in
-        record { ds = ds; rest = r; front = rw same at f; writes = rw same at d; short = rw same at l; due = due; room = room; extent = extent; within = omega arith }
+strung end depth count at t os more e = says end depth count at t (string os more) e
 
 -- what stands behind a string's text
 pub behind-string : (o : ℕ) (rest ds os behind : List ℕ) → o ∷ rest ≡ ds ++ (58 ∷ (os ++ behind)) → drop (length ds + length os) rest ≡ behind

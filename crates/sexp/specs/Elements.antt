@@ -31,13 +31,13 @@ Record (list inner es) = es ≡ none
 abbrev pub Same : Elements → Elements → Type 0
 Same none none = Unit {0}
 Same none (atom b fs) = ⊥
-Same none (list jnner fs) = ⊥
+Same none (list other fs) = ⊥
 Same (atom a es) none = ⊥
 Same (atom a es) (atom b fs) = (a ≡ b) × Same es fs
-Same (atom a es) (list jnner fs) = ⊥
+Same (atom a es) (list other fs) = ⊥
 Same (list inner es) none = ⊥
 Same (list inner es) (atom b fs) = ⊥
-Same (list inner es) (list jnner fs) = Same inner jnner × Same es fs
+Same (list inner es) (list other fs) = Same inner other × Same es fs
 
 -- how many elements a run has, those inside its lists counted
 abbrev pub count : Elements → ℕ
@@ -51,6 +51,7 @@ depth none = 0
 depth (atom a es) = max 1 (depth es)
 depth (list inner es) = max (1 + depth inner) (depth es)
 
+-- how many octets an atom has
 abbrev pub size : Atom → ℕ
 size (octets os) = length os
 
