@@ -1,4 +1,6 @@
 // Numbers written in decimal, octet by octet: no leading zero, and a '-' in front of what is below zero.
+#![tactic(auto)]
+
 ghost use Rattle.std.specs.Prelude.{◌≡◌, length, decimal, slice_index};
 ghost use Rattle.std.specs.Fmt.{signed_decimal};
 

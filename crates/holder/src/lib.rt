@@ -1,4 +1,6 @@
 // The questions put to whatever holds a record, and what is done over them.
+#![tactic(auto)]
+
 pub mod copying;
 pub mod holding;
 pub mod kinds;

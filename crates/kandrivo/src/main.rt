@@ -1,4 +1,6 @@
 // The record fitter at the command line.
+#![tactic(auto)]
+
 mod checking;
 mod files;
 

@@ -6,7 +6,7 @@ use Rattle.sexp.specs.declared.reader.Progress.{Progress}
 use Rattle.sexp.specs.declared.refusals.Refusal.{Refusal}
 use Rattle.sexp.specs.declared.refusals.Refusal.TheVariants.{Malformed}
 use Rattle.sexp.specs.declared.tokens.Cursor.{Cursor}
-use Rattle.sexp.specs.Elements.{octets, Elements, none, atom, list, ◌then◌, Record, count, depth}
+use Rattle.sexp.specs.Elements.{octets, Elements, none, atom, list, ◌then◌, Record}
 use Rattle.sexp.specs.Reading.{Lexeme, opening, closing, string, fault, refused, onward, opened, closed, reading}
 use Rattle.sexp.specs.Tokens.{lexeme_at}
 use Rattle.sexp.specs.Checks.{reading_from, Spans, Closes, Lists}

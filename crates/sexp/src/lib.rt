@@ -1,4 +1,6 @@
 // Canonical S-expressions: the refusals, the tokens and the reader.
+#![tactic(auto)]
+
 pub mod reader;
 pub mod refusals;
 pub mod tokens;

@@ -1,2 +1,4 @@
 // Nodes.
+#![tactic(auto)]
+
 pub mod nodes;

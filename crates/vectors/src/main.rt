@@ -1,4 +1,6 @@
 // Goes through example cases, and prints each with what it gave and whether that is what it should be.
+#![tactic(auto)]
+
 mod outcome;
 mod texts;
 

@@ -2,5 +2,5 @@ use Rattle.std.proofs.Common.{arith}
 use Rattle.decimal.proofs.Lengths.{length_decimal_most}
 use Rattle.decimal.proofs.signed_length.Goals as goal
 
-pub overflow-add-result : goal.overflow-add-result
-overflow-add-result c = omega (arith, length_decimal_most c.unsigned-abs.result c.unsigned-abs.type-inv)
+pub overflow_add-result : goal.overflow_add-result
+overflow_add-result c = omega (arith, length_decimal_most c.unsigned_abs.result c.unsigned_abs.type_inv)

@@ -6,7 +6,7 @@ pub returns-in-Ok : goal.returns-in-Ok
 returns-in-Ok c =
     subst (λ a. IfOk c.format.result (λ s. string_bytes s ≡ check_line c.args.path.now a)) (sym c.in-Ok.is) c.format.ensures.ok
 
-pub returns-in-ok-told : goal.returns-in-ok-told
-returns-in-ok-told c =
+pub returns-in_ok-told-in-Err : goal.returns-in_ok-told-in-Err
+returns-in_ok-told-in-Err c =
     subst (λ a. IfOk c.format-in-Err.result (λ s. string_bytes s ≡ check_line c.args.path.now a)) (sym c.in-Err.is)
-    (subst (λ b. IfOk c.format-in-Err.result (λ s. string_bytes s ≡ c.args.path.now ++ (codes ": " ++ b))) c.in-ok-told.ensures c.format-in-Err.ensures.ok)
+    (subst (λ b. IfOk c.format-in-Err.result (λ s. string_bytes s ≡ c.args.path.now ++ (codes ": " ++ b))) c.in_ok-told-in-Err.ensures c.format-in-Err.ensures.ok)

@@ -4,16 +4,16 @@ use Rattle.sexp.specs.Elements.{Elements}
 use Rattle.sexp.proofs.reader.+check.Given as goal
 
 -- the depth that is left
-abbrev pub decreases-check-element : goal.decreases-check-element
-decreases-check-element l = 2 * (33 - l.from.cursor.depth)
+abbrev pub decreases-check_element : goal.decreases-check_element
+decreases-check_element l = 2 * (33 - l.from.cursor.depth)
 
-abbrev pub decreases-check-list : goal.decreases-check-list
-decreases-check-list l = 2 * (33 - l.from.cursor.depth) + 1
+abbrev pub decreases-check_list : goal.decreases-check_list
+decreases-check_list l = 2 * (33 - l.from.cursor.depth) + 1
 
 -- the elements passed so far
-abbrev pub invariant-check-list-loop-behind : goal.invariant-check-list-loop-behind
-invariant-check-list-loop-behind l = ((es : Elements) × Spans l.text l.initial.at l.at es) × (l.at.cursor.depth ≤ l.at.deepest)
+abbrev pub invariant-check_list-loop-behind : goal.invariant-check_list-loop-behind
+invariant-check_list-loop-behind l = ((es : Elements) × Spans l.text l.initial.at l.at es) × (l.at.cursor.depth ≤ l.at.deepest)
 
 -- the text that is left
-abbrev pub decreases-check-list-loop-behind : goal.decreases-check-list-loop-behind
-decreases-check-list-loop-behind l = length l.text - l.at.cursor.at
+abbrev pub decreases-check_list-loop-behind : goal.decreases-check_list-loop-behind
+decreases-check_list-loop-behind l = length l.text - l.at.cursor.at

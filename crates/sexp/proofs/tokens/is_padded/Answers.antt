@@ -6,4 +6,4 @@ pub returns-then-text-at-ne48 : goal.returns-then-text-at-ne48
 returns-then-text-at-ne48 c = sym (padded_not c.args.text.now c.args.at c.requires c.if-text-at-ne48.true)
 
 pub returns : goal.returns
-returns c = c.digit-at.ensures ∙ sym (padded_zero c.args.text.now c.args.at c.requires c.if-text-at-ne48.false)
+returns c = c.digit_at.ensures ∙ sym (padded_zero c.args.text.now c.args.at c.requires c.if-text-at-ne48.false)

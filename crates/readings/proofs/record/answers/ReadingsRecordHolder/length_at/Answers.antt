@@ -2,8 +2,8 @@ use Rattle.std.proofs.Common.{◌-◌, ◌<◌, length, get_or, pos, ap, ◌∙�
 use Rattle.readings.proofs.Places.{Reading, atom_at_reading, written}
 use Rattle.readings.proofs.record.answers.ReadingsRecordHolder.length_at.Goals as goal
 
-pub overflow-sub-place : goal.overflow-sub-place
-overflow-sub-place c = (atom_at_reading c.args.place c.args.self.now.readings.now c.requires).behind_root
+pub overflow_sub-place : goal.overflow_sub-place
+overflow_sub-place c = (atom_at_reading c.args.place c.args.self.now.readings.now c.requires).behind_root
 
 pub bounds-self-place : goal.bounds-self-place
 bounds-self-place c = (atom_at_reading c.args.place c.args.self.now.readings.now c.requires).inside
@@ -12,4 +12,4 @@ pub returns : goal.returns
 returns c =
     let inside : c.args.place - 1 < length c.args.self.now.readings.now = (atom_at_reading c.args.place c.args.self.now.readings.now c.requires).inside in
     let fits : SFits w32 (get_or c.args.self.now.readings.now (c.args.place - 1) (pos 0)) = search rules in
-    c.signed-length.ensures ∙ ap length (written c.args.place c.args.self.now.readings.now c.requires fits)
+    c.signed_length.ensures ∙ ap length (written c.args.place c.args.self.now.readings.now c.requires fits)
