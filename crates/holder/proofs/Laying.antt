@@ -1,11 +1,11 @@
 -- The text of a run, measured and put octet by octet.
-use Rattle.std.proofs.Common.{◌≡◌, ℕ, suc, ◌+◌, ◌*◌, ◌^◌, ◌<◌, ◌≤◌, Bool, true, false, cond, List, [], ◌∷◌, ◌++◌, length, get_or, take, drop, set, decimal, sym, refl, ap, ◌∙◌, append_assoc, append-nil, add-zero, zero-add, arith, length-append, length-set, length-take}
+use Rattle.std.proofs.Common.{◌≡◌, ℕ, suc, ◌+◌, ◌*◌, ◌<◌, ◌≤◌, List, [], ◌∷◌, ◌++◌, length, get_or, take, drop, set, sym, refl, ap, ◌∙◌, append_assoc, append-nil, add-zero, zero-add, arith, length-append, length-set, length-take}
 use Rattle.std.proofs.lemmas.Fmt.{length-decimal-le}
 use Rattle.std.proofs.lemmas.List.{take_more, take_more_set, drop-set-lt, take-append-drop, take_all}
-use Rattle.sexp.specs.Elements.{Atom, octets, Elements, none, atom, list, size, count, ShortAtoms}
-use Rattle.sexp.specs.Text.{atom_then, text_then, text}
+use Rattle.sexp.specs.Elements.{octets, Elements, none, atom, list, count, ShortAtoms}
+use Rattle.sexp.specs.Text.{text_then, text}
 use Rattle.sexp.proofs.Runs.{text_then-append, text_front}
-use Rattle.holder.specs.Placed.{Placed, nothing, atom_at, list_at, erase, behind, spelled, octets_of}
+use Rattle.holder.specs.Placed.{Placed, nothing, atom_at, list_at, erase, behind}
 use Rattle.holder.specs.Walks.{first_of, put_at}
 
 pub put_at-append : (at : ℕ) (xs ys out : List ℕ) → put_at at (xs ++ ys) out ≡ put_at (at + length xs) ys (put_at at xs out)

@@ -1,5 +1,5 @@
 -- How deep a walk has yet to go, and the state of its loops.
-use Rattle.std.proofs.Common.{◌≡◌, ℕ, ◌+◌, ◌*◌, ◌<◌, ◌≤◌, List, length}
+use Rattle.std.proofs.Common.{◌≡◌, ℕ, ◌+◌, ◌*◌, ◌≤◌, List, length}
 use Rattle.sexp.specs.Elements.{count, depth}
 use Rattle.sexp.specs.Text.{text}
 use Rattle.holder.specs.Placed.{Placed, erase, run_at, inside, Stands}

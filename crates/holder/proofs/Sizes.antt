@@ -1,13 +1,12 @@
 -- What a walk over a lawful tree meets: the kind of an element, its text, its size.
-use Rattle.std.proofs.Common.{◌≡◌, ℕ, suc, ◌+◌, ◌*◌, ◌<◌, ◌≤◌, max, List, [], ◌∷◌, ◌++◌, length, set, Some, None, decimal, Option, sym, refl, ap, ◌∙◌, subst, append_assoc, append-nil, arith, length-append}
+use Rattle.std.proofs.Common.{◌≡◌, ℕ, ◌+◌, ◌<◌, ◌≤◌, List, [], ◌∷◌, ◌++◌, length, set, Some, None, decimal, sym, refl, ap, ◌∙◌, append-nil, arith, length-append}
 use Rattle.sexp.specs.Elements.{octets, none, count, depth, ShortAtoms}
-use Rattle.sexp.specs.Text.{text_then, text}
+use Rattle.sexp.specs.Text.{text}
 use Rattle.sexp.proofs.Runs.{text_front}
-use Rattle.holder.specs.declared.kinds.Kind.{Kind}
 use Rattle.holder.specs.declared.kinds.Kind.TheVariants.{List as ListKind, Atom as AtomKind}
-use Rattle.holder.specs.Placed.{Placed, nothing, atom_at, list_at, erase, Meaning, run_at, front, inside, behind, spelled, octets_of, kind_of, Stands, IsList, IsAtom}
+use Rattle.holder.specs.Placed.{Placed, nothing, atom_at, list_at, erase, Meaning, run_at, front, inside, behind, octets_of, kind_of, Stands, IsList, IsAtom}
 use Rattle.holder.specs.Walks.{first_of, put_at}
-use Rattle.holder.proofs.Walk.{part_at, part_short, part_count, front_stands, list_stands, atom_stands, first_found, next_found}
+use Rattle.holder.proofs.Walk.{part_at, part_short, part_count, front_stands, atom_stands, first_found, next_found}
 use Rattle.holder.proofs.Laying.{text_first, length_text_most, put_at-append}
 use Rattle.holder.proofs.Measures.{element_measure, run_measure, left_measure, Counted, Putting}
 

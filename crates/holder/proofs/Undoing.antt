@@ -1,5 +1,5 @@
 -- Reading and copying out undo each other.
-use Rattle.std.proofs.Common.{◌≡◌, ℕ, suc, ◌+◌, ◌<◌, ◌≤◌, Bool, true, false, ltb, ◌⊎◌, List, [], ◌∷◌, ◌++◌, length, take, drop, Ok, Err, decimal, Result, sym, refl, ap, ◌∙◌, subst, inl, inr, arith, length-append}
+use Rattle.std.proofs.Common.{◌≡◌, ℕ, ◌<◌, ◌≤◌, List, [], ◌∷◌, ◌++◌, length, take, drop, Ok, Err, decimal, Result, sym, refl, ◌∙◌, subst, inl, inr, arith, length-append}
 use Rattle.std.proofs.lemmas.List.{take_at}
 use Rattle.std.proofs.lemmas.Bool.{cases_lt, lt-ltb, le-ltb}
 use Rattle.sexp.specs.declared.refusals.Refusal.{Refusal}
@@ -9,7 +9,7 @@ use Rattle.sexp.specs.Reading.{verdict, accepted}
 use Rattle.sexp.specs.Text.{text, text_then}
 use Rattle.sexp.proofs.Complete.{text_accepted}
 use Rattle.sexp.proofs.Sound.{accepted_text}
-use Rattle.holder.specs.Placed.{Meaning, erase}
+use Rattle.holder.specs.Placed.{Meaning}
 use Rattle.holder.specs.Copies.{record_of, laying, laid, ReadingAndCopyingUndo}
 
 pub laying_long : (t out : List ℕ) → 32768 < length t → (laying t out ≡ Err ResultTooLarge) × (laid t out ≡ out)

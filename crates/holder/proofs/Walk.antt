@@ -1,5 +1,5 @@
 -- Every run of a lawful tree is found again at the place of its first element.
-use Rattle.std.proofs.Common.{◌≡◌, ℕ, ◌+◌, ◌<◌, ◌≤◌, max, Bool, true, false, cond, eqb, ◌⊎◌, List, [], ◌∷◌, ◌++◌, Some, None, Option, sym, refl, ap, ◌∙◌, subst, inl, inr, ⊎_elim, arith, eqb-true}
+use Rattle.std.proofs.Common.{◌≡◌, ℕ, ◌≤◌, eqb, ◌⊎◌, List, [], ◌∷◌, ◌++◌, Some, sym, refl, ◌∙◌, inl, inr, arith}
 use Rattle.std.proofs.lemmas.Bool.{eq-eqb, ne_eqb, cases_Bool}
 use Rattle.sexp.specs.Elements.{Atom, count, depth, ShortAtoms}
 use Rattle.holder.specs.Placed.{Placed, nothing, atom_at, list_at, erase, places, Absent, Apart, ◌or_else◌, run_at, front, inside, behind, Stands, IsList, IsAtom}

@@ -4,7 +4,6 @@ use Rattle.sexp.specs.declared.refusals.Refusal.{Refusal}
 use Rattle.sexp.specs.declared.refusals.Refusal.TheVariants.{ResultTooLarge, ShortOutput}
 use Rattle.sexp.specs.Elements.{Elements}
 use Rattle.sexp.specs.Reading.{verdict, accepted}
-use Rattle.sexp.specs.Text.{text}
 use Rattle.holder.specs.Placed.{Meaning, erase}
 
 -- the record that a holder means

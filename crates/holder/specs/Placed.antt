@@ -1,5 +1,5 @@
 -- Records in which each element has a place, and what is asked of them. Assumes nothing.
-use Rattle.std.specs.Prelude.{◌≡◌, ℕ, cond, List, [], ◌∷◌, ◌++◌, Some, None, Option, ◌==◌, ◌≢◌}
+use Rattle.std.specs.Prelude.{ℕ, cond, List, [], ◌∷◌, ◌++◌, Some, None, Option, ◌==◌, ◌≢◌}
 use Rattle.sexp.specs.Elements.{Atom, octets, Elements, none, atom, list, Record, Within}
 use Rattle.holder.specs.declared.kinds.Kind.{Kind}
 use Rattle.holder.specs.declared.kinds.Kind.TheVariants.{List as ListKind, Atom as AtomKind}

@@ -14,8 +14,8 @@ use sexp::refusals::Refusal;
 // How many octets the text of an element has.
 #[cycle(measure)]
 fn element_length<H: Holder>(holder: &H, place: u32) -> usize
-    requires { Stands (run_at place (meaning holder.now).tree) }
-    ensures { result ≡ length (text (first_of (run_at place (meaning holder.now).tree))) }
+    requires { Stands (run_at place (H.meaning holder.now).tree) }
+    ensures { result ≡ length (text (first_of (run_at place (H.meaning holder.now).tree))) }
 {
     match holder.kind_at(place) {
         Kind::Atom => {
@@ -32,8 +32,8 @@ fn element_length<H: Holder>(holder: &H, place: u32) -> usize
 // How many octets the text of an element and of those behind it in its list has.
 #[cycle(measure)]
 fn run_length<H: Holder>(holder: &H, first: u32) -> usize
-    requires { Stands (run_at first (meaning holder.now).tree) }
-    ensures { result ≡ length (text (erase (run_at first (meaning holder.now).tree))) }
+    requires { Stands (run_at first (H.meaning holder.now).tree) }
+    ensures { result ≡ length (text (erase (run_at first (H.meaning holder.now).tree))) }
 {
     let mut total = 0;
     let mut place = first;
@@ -71,10 +71,10 @@ fn put_number(output: &mut [u8], at: usize, value: u32) -> usize
 
 // Puts an atom's octets.
 fn put_octets<H: Holder>(holder: &H, place: u32, output: &mut [u8], at: usize) -> usize
-    requires atom { IsAtom (run_at place (meaning holder.now).tree) }
-    requires room { at + length (octets_of (run_at place (meaning holder.now).tree)) ≤ length output.old }
-    ensures end { result ≡ at + length (octets_of (run_at place (meaning holder.now).tree)) }
-    ensures put { output.new ≡ put_at at (octets_of (run_at place (meaning holder.now).tree)) output.old }
+    requires atom { IsAtom (run_at place (H.meaning holder.now).tree) }
+    requires room { at + length (octets_of (run_at place (H.meaning holder.now).tree)) ≤ length output.old }
+    ensures end { result ≡ at + length (octets_of (run_at place (H.meaning holder.now).tree)) }
+    ensures put { output.new ≡ put_at at (octets_of (run_at place (H.meaning holder.now).tree)) output.old }
 {
     let count = holder.length_at(place);
     for index in 0..count {
@@ -86,10 +86,10 @@ fn put_octets<H: Holder>(holder: &H, place: u32, output: &mut [u8], at: usize) -
 // Puts the text of an element.
 #[cycle(put)]
 fn put_element<H: Holder>(holder: &H, place: u32, output: &mut [u8], at: usize) -> usize
-    requires stands { Stands (run_at place (meaning holder.now).tree) }
-    requires room { at + length (text (first_of (run_at place (meaning holder.now).tree))) ≤ length output.old }
-    ensures end { result ≡ at + length (text (first_of (run_at place (meaning holder.now).tree))) }
-    ensures put { output.new ≡ put_at at (text (first_of (run_at place (meaning holder.now).tree))) output.old }
+    requires stands { Stands (run_at place (H.meaning holder.now).tree) }
+    requires room { at + length (text (first_of (run_at place (H.meaning holder.now).tree))) ≤ length output.old }
+    ensures end { result ≡ at + length (text (first_of (run_at place (H.meaning holder.now).tree))) }
+    ensures put { output.new ≡ put_at at (text (first_of (run_at place (H.meaning holder.now).tree))) output.old }
 {
     match holder.kind_at(place) {
         Kind::Atom => {
@@ -114,10 +114,10 @@ fn put_element<H: Holder>(holder: &H, place: u32, output: &mut [u8], at: usize) 
 // Puts the text of an element and of those behind it in its list.
 #[cycle(put)]
 fn put_run<H: Holder>(holder: &H, first: u32, output: &mut [u8], from: usize) -> usize
-    requires stands { Stands (run_at first (meaning holder.now).tree) }
-    requires room { from + length (text (erase (run_at first (meaning holder.now).tree))) ≤ length output.old }
-    ensures end { result ≡ from + length (text (erase (run_at first (meaning holder.now).tree))) }
-    ensures put { output.new ≡ put_at from (text (erase (run_at first (meaning holder.now).tree))) output.old }
+    requires stands { Stands (run_at first (H.meaning holder.now).tree) }
+    requires room { from + length (text (erase (run_at first (H.meaning holder.now).tree))) ≤ length output.old }
+    ensures end { result ≡ from + length (text (erase (run_at first (H.meaning holder.now).tree))) }
+    ensures put { output.new ≡ put_at from (text (erase (run_at first (H.meaning holder.now).tree))) output.old }
 {
     let mut at = from;
     let mut place = first;
@@ -132,9 +132,9 @@ fn put_run<H: Holder>(holder: &H, first: u32, output: &mut [u8], from: usize) ->
 
 // Lays the text of a holder's record at the front of an output, and tells its length.
 pub fn copy_out<H: Holder>(holder: &H, output: &mut [u8]) -> Result<usize, Refusal>
-    ensures answer { result ≡ laying (text (record_of (meaning holder.now))) output.old }
-    ensures left { output.new ≡ laid (text (record_of (meaning holder.now))) output.old }
-    ensures undo { ReadingAndCopyingUndo (record_of (meaning holder.now)) output.old output.new result }
+    ensures answer { result ≡ laying (text (record_of (H.meaning holder.now))) output.old }
+    ensures left { output.new ≡ laid (text (record_of (H.meaning holder.now))) output.old }
+    ensures undo { ReadingAndCopyingUndo (record_of (H.meaning holder.now)) output.old output.new result }
 {
     let root = holder.root();
     let length = run_length(holder, root);

@@ -1,9 +1,9 @@
 -- temp
-use Rattle.std.proofs.Common.{◌≡◌, ℕ, ◌+◌, ◌-◌, ◌<◌, ◌≤◌, List, [], ◌∷◌, ◌++◌, length, refl, append_assoc, arith}
+use Rattle.std.proofs.Common.{◌≡◌, ℕ, List, ◌++◌, length, refl, append_assoc, arith}
 use Rattle.std.proofs.lemmas.List.{length-append}
 use Rattle.sexp.specs.Elements.{Elements, ◌then◌, count}
 use Rattle.tables.specs.declared.nodes.Node.{Node}
-use Rattle.tables.specs.Nodes.{list_node, atom_node, Lays, empty, leaf, branch}
+use Rattle.tables.specs.Nodes.{Lays, empty, leaf, branch}
 
 -- as many nodes as elements
 pub lays_count : {o : List ℕ} {ns : List Node} {es : Elements} → Lays o ns es → count es ≡ length ns

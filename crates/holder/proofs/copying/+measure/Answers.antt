@@ -1,6 +1,5 @@
-use Rattle.std.proofs.Common.{◌+◌, ◌<◌, ◌≤◌, length, sym, arith, rules}
-use Rattle.holder.specs.Placed.{run_at, IsAtom, IsList, octets_of}
-use Rattle.holder.proofs.Measures.{run_measure, element_measure}
+use Rattle.std.proofs.Common.{sym, rules}
+use Rattle.holder.specs.Placed.{run_at}
 use Rattle.holder.proofs.Sizes.{kind_atom, kind_list, atom_small, text_most, first_most, counted_atom, counted_list, counted_most, inner_less, first_stands, left_less, counted_more}
 use Rattle.holder.proofs.copying.+measure.Goals as goal
 

@@ -1,7 +1,7 @@
-use Rattle.std.proofs.Common.{◌+◌, ◌<◌, ◌≤◌, length, sym, arith, rules}
-use Rattle.holder.specs.Placed.{run_at, IsAtom, IsList, octets_of}
+use Rattle.std.proofs.Common.{sym, arith, rules}
+use Rattle.holder.specs.Placed.{run_at}
 use Rattle.holder.proofs.Walk.{first_found}
-use Rattle.holder.proofs.Sizes.{kind_atom, kind_list, atom_small, room_atom, room_list, element_less, inner_less, first_stands, left_less, putting_more, put_atom, put_list, put_last, room_first}
+use Rattle.holder.proofs.Sizes.{kind_atom, kind_list, atom_small, room_atom, room_list, element_less, inner_less, first_stands, left_less, putting_more, put_atom, put_list, room_first}
 use Rattle.holder.proofs.copying.+put.Goals as goal
 
 pub put_element-overflow_cast-length : goal.put_element-overflow_cast-length

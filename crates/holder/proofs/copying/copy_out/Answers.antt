@@ -1,6 +1,5 @@
-use Rattle.std.proofs.Common.{◌≡◌, ◌<◌, ◌≤◌, length, Ok, sym, ap, ◌∙◌, zero-add, arith}
+use Rattle.std.proofs.Common.{◌<◌, ◌≤◌, length, Ok, sym, ap, ◌∙◌, zero-add, arith}
 use Rattle.sexp.specs.Text.{text}
-use Rattle.holder.specs.Placed.{erase, run_at}
 use Rattle.holder.specs.Copies.{record_of}
 use Rattle.holder.proofs.Walk.{root_found}
 use Rattle.holder.proofs.Laying.{put_front}

@@ -1,5 +1,5 @@
 use Rattle.std.proofs.Common.{◌-◌, ◌<◌, length, get_or, pos, ap, ◌∙◌, w32, SFits, rules}
-use Rattle.readings.proofs.Places.{Reading, atom_at_reading, written}
+use Rattle.readings.proofs.Places.{atom_at_reading, written}
 use Rattle.readings.proofs.record.answers.ReadingsRecordHolder.octet_at.Goals as goal
 
 pub overflow_sub-place : goal.overflow_sub-place
