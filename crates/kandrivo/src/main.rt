@@ -4,9 +4,9 @@
 mod checking;
 mod files;
 
-use anyhow::anyhow;
 use checking::check_file;
 use std::env::Args;
+use std::process::ExitCode;
 use std::{env, io};
 
 const USAGE: &str = "usage: kandrivo check FILE...";
@@ -41,11 +41,11 @@ fn run(rt: &HostRuntime) -> io::Result<bool> {
     Ok(false)
 }
 
-// What went wrong has been printed where it was met; an `Err` here ends the process with status 1.
-fn main(rt: HostRuntime) -> anyhow::Result<()> {
+// What went wrong has been printed where it was met, so the status alone tells of it here.
+fn main(rt: HostRuntime) -> io::Result<ExitCode> {
     if run(&rt)? {
-        Ok(())
+        Ok(ExitCode::SUCCESS)
     } else {
-        Err(anyhow!("refused"))
+        Ok(ExitCode::FAILURE)
     }
 }

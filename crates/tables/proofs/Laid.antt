@@ -1,4 +1,4 @@
--- temp
+-- Nodes that lay out a run of elements. Assumes nothing.
 use Rattle.std.proofs.Common.{◌≡◌, ℕ, List, ◌++◌, length, refl, append_assoc, arith}
 use Rattle.std.proofs.lemmas.List.{length-append}
 use Rattle.sexp.specs.Elements.{Elements, ◌then◌, count}

@@ -4,10 +4,11 @@
 mod outcome;
 mod texts;
 
-use anyhow::anyhow;
 use outcome::Tally;
+use std::io;
+use std::process::ExitCode;
 
-fn main(rt: HostRuntime) -> anyhow::Result<()> {
+fn main(rt: HostRuntime) -> io::Result<ExitCode> {
     let mut tally = Tally::new();
     texts::written_texts(&rt, &mut tally)?;
     texts::built_texts(&rt, &mut tally)?;
@@ -15,7 +16,7 @@ fn main(rt: HostRuntime) -> anyhow::Result<()> {
     let wrong = tally.wrong;
     println!(rt; "{cases} cases, {wrong} wrong")?;
     if wrong > 0 {
-        return Err(anyhow!("a case is wrong"));
+        return Ok(ExitCode::FAILURE);
     }
-    Ok(())
+    Ok(ExitCode::SUCCESS)
 }
