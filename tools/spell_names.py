@@ -1,8 +1,8 @@
 #!/usr/bin/env python3
 """Spells the repository's own definitions and lemmas as the library's are spelled, once, at the top of the repository.
 
-A word and a lemma that says a fact are in snake case, a fact and a promise in camel case. A lemma that is an equation keeps the dash
-between the calls on its left side, as `count-then`. Functions of src/, strings and comments that name none of these stay as they are.
+Names are in snake case, facts and promises in camel case. A few equations keep the dash between the calls on their left side, as
+`count-then`. Functions of src/, strings and comments that name none of these stay as they are.
 """
 
 import glob

@@ -41,7 +41,8 @@ fn run(rt: &HostRuntime) -> io::Result<bool> {
     Ok(false)
 }
 
-// What went wrong has been printed where it was met, so the status alone tells of it here.
+// A refusal, an unreadable file and a wrong call were told where they were met, so the status alone tells of them; an `Err`
+// is told as the program ends.
 fn main(rt: HostRuntime) -> io::Result<ExitCode> {
     if run(&rt)? {
         Ok(ExitCode::SUCCESS)

@@ -4,7 +4,7 @@ use Rattle.std.proofs.lemmas.Str.Parse.{IsNumeralModel, numerals_by_fold}
 use Rattle.std.proofs.lemmas.Fmt.{decimal-digits_value, digits_decimal, digits_value-decimal, first_decimal, decimal_digit}
 use Rattle.sexp.specs.Grammar.{Digits, value_after, value, Decimal}
 
--- the grammar's digits and their number, as the shelf has them
+-- the grammar's digits and their number, as the library has them
 own : IsNumeralModel Digits value
 own = numerals_by_fold Digits (record { empty = tt; parts = λ c cs h. h; more = λ c cs d h. (d, h) }) value_after (record { empty = λ n. refl; more = λ n c cs d. refl })
 
