@@ -2,6 +2,7 @@ pub mod Elements
 pub mod Text
 pub mod Grammar
 pub mod Refusals
+pub mod Lines
 pub mod Faults
 pub mod Reading
 pub mod Tokens

@@ -6,6 +6,7 @@ ghost use Rattle.sexp.specs.Reading.{complete, missized, verdict};
 
 use crate::refusals::Refusal;
 use crate::tokens::{Cursor, Token, next};
+use std::fmt;
 
 pub const MOST_TEXT: usize = 32768;
 
@@ -14,6 +15,18 @@ pub const MOST_TEXT: usize = 32768;
 pub struct Extent {
     pub elements: usize,
     pub depth: usize,
+}
+
+impl fmt::Display for Extent {
+    ghost use Rattle.std.specs.Prelude.{Some};
+    ghost use Rattle.sexp.specs.Lines.{extent_line};
+
+    ghost output = { λ x. Some (extent_line x) };
+
+    fn fmt<W: fmt::Write>(&self, f: &mut fmt::Formatter<W>) -> fmt::Result {
+        let Extent { elements, depth } = *self;
+        write!(f, "{elements} elements, depth {depth}")
+    }
 }
 
 // How far a check has come, and how deep the elements passed so far go.

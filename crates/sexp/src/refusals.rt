@@ -1,8 +1,11 @@
-// Why a call was refused, in every layer of the fitter.
+//! Why a call was refused, in every layer of the fitter.
 ghost use Rattle.std.specs.Prelude.{◌≡◌};
 ghost use Rattle.sexp.specs.Refusals.{number_of, part_of, offset_of};
 
-// The part of the fitter that a refusal came from.
+use std::error::Error;
+use std::fmt;
+
+/// The part of the fitter that a refusal came from.
 #[derive(Clone, Copy, PartialEq, Eq, Debug)]
 pub enum Part {
     Text,
@@ -11,51 +14,52 @@ pub enum Part {
     Job,
 }
 
-// A refusal, with the offset of the octet or element that it is about where it has one.
+/// A refusal, with the offset of the octet or element that it is about where it has one.
 #[derive(Clone, Copy, PartialEq, Eq, Debug)]
 pub enum Refusal {
-    // A text of no octet, or of more than 32,768.
+    /// A text of no octet, or of more than 32,768.
     TextLength,
-    // A text that is not canonical.
+    /// A text that is not canonical.
     Malformed { offset: usize },
-    // A record past a limit; more than 4,095 readings.
+    /// A record past a limit; more than 4,095 readings.
     OverLimit { offset: usize },
-    // A book's root that is no list; a rule that is no list of two.
+    /// A book's root that is no list; a rule that is no list of two.
     NotAList { offset: usize },
-    // An atom of a pattern or a template that is empty or begins with no sign.
+    /// An atom of a pattern or a template that is empty or begins with no sign.
     UnknownSign { offset: usize },
-    // A name of no octet, or of more than 32.
+    /// A name of no octet, or of more than 32.
     NameLength { offset: usize },
-    // A segment that is a whole pattern or template.
+    /// A segment that is a whole pattern or template.
     WholeSegment { offset: usize },
-    // A name that has the other sign in this rule already.
+    /// A name that has the other sign in this rule already.
     OtherSign { offset: usize },
-    // A rule past a limit.
+    /// A rule past a limit.
     RuleLimit { offset: usize },
-    // A name of a template that its pattern lacks.
+    /// A name of a template that its pattern lacks.
     UnboundName { offset: usize },
-    // 64 rules are taken.
+    /// 64 rules are taken.
     BookFull,
-    // No rule is next.
+    /// No rule is next.
     NoRule,
-    // No unused node is left for an element.
+    /// No unused node is left for an element.
     NoNode { offset: usize },
-    // Nodes that are no record within the limits.
+    /// Nodes that are no record within the limits.
     NotATable,
-    // Fewer than 256 marks or places of working memory.
+    /// Fewer than 256 marks or places of working memory.
     SmallMemory,
-    // No fit stands.
+    /// No fit stands.
     NoFit,
-    // A name that the standing rule lacks.
+    /// A name that the standing rule lacks.
     UnknownName,
-    // A result past 4,096 elements, depth 32 or 32,768 octets.
+    /// A result past 4,096 elements, depth 32 or 32,768 octets.
     ResultTooLarge,
-    // An output shorter than the result.
+    /// An output shorter than the result.
     ShortOutput,
 }
 
 impl Refusal {
-    // The number that stands for this refusal in the fitter's documents.
+    /// The number that stands for this refusal in the fitter's documents.
+    // A method as `part` and `offset` are, and no `From`: `u8::from(refusal)` would not say which fact is asked for.
     pub fn number(self) -> u8
         ensures { result ≡ number_of self }
     {
@@ -82,6 +86,7 @@ impl Refusal {
         }
     }
 
+    /// The part of the fitter that refused.
     pub fn part(self) -> Part
         ensures { result ≡ part_of self }
     {
@@ -98,7 +103,7 @@ impl Refusal {
         }
     }
 
-    // Where the refusal is about a text: the octet, or the element's first octet.
+    /// Where the refusal is about a text: the octet, or the element's first octet.
     pub fn offset(self) -> Option<usize>
         ensures { result ≡ offset_of self }
     {
@@ -118,3 +123,20 @@ impl Refusal {
         }
     }
 }
+
+impl fmt::Display for Refusal {
+    ghost use Rattle.std.specs.Prelude.{Some};
+    ghost use Rattle.sexp.specs.Lines.{refusal_line};
+
+    ghost output = { λ r. Some (refusal_line r) };
+
+    fn fmt<W: fmt::Write>(&self, f: &mut fmt::Formatter<W>) -> fmt::Result {
+        let number = self.number();
+        match self.offset() {
+            Some(offset) => write!(f, "refused {number} at {offset}"),
+            None => write!(f, "refused {number}"),
+        }
+    }
+}
+
+impl Error for Refusal {}
