@@ -1,23 +1,12 @@
-// `kandrivo check`: whether files hold records in canonical form.
+//! `kandrivo check`: whether files hold records in canonical form.
 ghost use Rattle.std.specs.Prelude.{◌≡◌, IfOk, string_bytes};
-ghost use Rattle.kandrivo.specs.Lines.{refusal_line, check_line};
+ghost use Rattle.kandrivo.specs.Lines.{check_line};
 
 use crate::files::read_text;
 use sexp::reader::{Extent, check};
 use sexp::refusals::Refusal;
 use std::alloc::{AllocError, Global};
 use std::io;
-
-// A refusal as it is printed.
-fn refusal_line(heap: Global, refusal: Refusal) -> Result<String, AllocError>
-    ensures { IfOk result (λ s. string_bytes s ≡ refusal_line refusal) }
-{
-    let number = refusal.number();
-    match refusal.offset() {
-        Some(offset) => format!(in heap; "refused {number} at {offset}"),
-        None => format!(in heap; "refused {number}"),
-    }
-}
 
 // The line that tells what the check of a file answered.
 fn check_line(
@@ -28,19 +17,12 @@ fn check_line(
     ensures { IfOk result (λ s. string_bytes s ≡ check_line path.now answer) }
 {
     match answer {
-        Ok(extent) => {
-            let elements = extent.elements;
-            let depth = extent.depth;
-            format!(in heap; "{path}: accepted, {elements} elements, depth {depth}")
-        }
-        Err(refusal) => {
-            let told = refusal_line(heap, refusal)?;
-            format!(in heap; "{path}: {told}")
-        }
+        Ok(extent) => format!(in heap; "{path}: accepted, {extent}"),
+        Err(refusal) => format!(in heap; "{path}: {refusal}"),
     }
 }
 
-// Prints what the check of a file's text answers, and says whether the text was accepted.
+/// Prints what the check of a file's text answers, and says whether the text was accepted.
 pub(crate) fn check_file(rt: &HostRuntime, path: &str) -> io::Result<bool> {
     let text = match read_text(rt, path) {
         Ok(text) => text,

@@ -1,4 +1,4 @@
-// The record fitter at the command line.
+//! The record fitter at the command line.
 #![tactic(auto)]
 
 mod checking;
@@ -11,42 +11,27 @@ use std::{env, io};
 
 const USAGE: &str = "usage: kandrivo check FILE...";
 
-// Checks each file that is named, and says whether all were accepted.
-fn check_files(rt: &HostRuntime, paths: Args) -> io::Result<bool> {
-    let mut named = false;
-    let mut accepted = true;
+// Checks each file, those behind one that is not accepted too.
+fn check_files(rt: &HostRuntime, paths: Args) -> io::Result<ExitCode> {
+    let mut status = ExitCode::SUCCESS;
     for path in paths {
-        named = true;
         if !check_file(rt, path.as_str())? {
-            accepted = false;
+            status = ExitCode::FAILURE;
         }
     }
-    if !named {
-        eprintln!(rt; "{USAGE}")?;
-    }
-    Ok(named && accepted)
+    Ok(status)
 }
 
-// Does what the arguments ask for, and says whether it went well.
-fn run(rt: &HostRuntime) -> io::Result<bool> {
-    let mut args = env::args(rt)?;
-    let _program = args.next();
-    let command = args.next();
-    if let Some(command) = command {
-        if command.as_str() == "check" {
-            return check_files(rt, args);
-        }
-    }
-    eprintln!(rt; "{USAGE}")?;
-    Ok(false)
-}
-
-// A refusal, an unreadable file and a wrong call were told where they were met, so the status alone tells of them; an `Err`
-// is told as the program ends.
+// A refusal, an unreadable file and a wrong call are told where they are met, so the status alone tells of them; an `Err` is
+// told as the program ends.
 fn main(rt: HostRuntime) -> io::Result<ExitCode> {
-    if run(&rt)? {
-        Ok(ExitCode::SUCCESS)
-    } else {
-        Ok(ExitCode::FAILURE)
+    let mut args = env::args(&rt)?;
+    let _program = args.next();
+    match args.next().as_deref() {
+        Some("check") if args.len() > 0 => check_files(&rt, args),
+        _ => {
+            eprintln!(rt; "{USAGE}")?;
+            Ok(ExitCode::FAILURE)
+        }
     }
 }
