@@ -8,7 +8,7 @@ pub mod Sound
 pub mod Listed
 pub mod Theory
 pub mod Scan
-pub mod Lengths
+pub mod Atoms
 pub mod Branches
 pub mod Stands
 pub mod Spanned

@@ -1,60 +1,53 @@
--- The digits at an offset of a text. Assumes nothing.
-use Rattle.std.proofs.Common.{◌≡◌, ℕ, ◌+◌, ◌-◌, ◌*◌, ◌<◌, ◌≤◌, Bool, true, false, ◌&&◌, eqb, ltb, List, [], ◌∷◌, length, get_or, drop, sym, refl, ap, ◌∙◌, ⊎_elim, arith}
-use Rattle.std.proofs.lemmas.List.{drop_more, drop_all}
-use Rattle.std.proofs.lemmas.Bool.{ltb-true, ltb-false, lt-ltb, le-ltb, and_parts, and_cases, eq-eqb, ne_eqb}
-use Rattle.sexp.specs.Grammar.{value_after}
-use Rattle.sexp.specs.Reading.{is_digit, digits, behind, padded}
-use Rattle.sexp.specs.Checks.{digit_at}
-use Rattle.sexp.proofs.Lexing.{digit_true, digit_false, digits_yes, digits_no, behind_yes, behind_no}
+-- The digits at the front of a text, and what they write. Assumes nothing.
+use Rattle.std.proofs.Common.{◌≡◌, ℕ, ◌+◌, ◌-◌, ◌*◌, ◌<◌, ◌≤◌, true, false, not, cond, Bool, ltb, List, [], ◌∷◌, length, get_or, take, drop, Some, None, sym, refl, ap, ◌∙◌, ⊎_elim, arith}
+use Rattle.std.specs.Char.{is_ascii_digit}
+use Rattle.std.specs.List.{position, position_or_len}
+use Rattle.std.specs.Option.{unwrap_or}
+use Rattle.std.proofs.lemmas.Bool.{lt-ltb, le-ltb, cases_lt}
+use Rattle.std.proofs.lemmas.List.{drop_more, length-append, take_at, drop_at}
+use Rattle.std.proofs.lemmas.List.Recursion.{is_position_or_len}
+use Rattle.sexp.specs.Grammar.{value_after, value}
+use Rattle.sexp.specs.Reading.{is_digit, digits, behind}
+use Rattle.sexp.specs.Checks.{short_value}
+use Rattle.sexp.proofs.Lexing.{digits_behind}
 
--- where a digit stands, the digits go on behind it
-pub record More (t : List ℕ) (i : ℕ) : Type 0 where
-  pub inside : i < length t
-  pub ahead : digits (drop i t) ≡ get_or t i 0 ∷ digits (drop (i + 1) t)
-  pub after : behind (drop i t) ≡ behind (drop (i + 1) t)
+-- where the digits at the front of a text end
+abbrev pub stop : List ℕ → ℕ
+stop t = unwrap_or (position (λ o. not (is_ascii_digit o)) t) (length t)
 
-pub more_digits : (t : List ℕ) (i : ℕ) → digit_at t i ≡ true → More t i
-more_digits t i e =
-    let parts = and_parts _ _ e in
-    let l = ltb-true i (length t) parts.0 in
-    let d = digit_true (get_or t i 0) parts.1 in
-    record { inside = l; ahead = ap digits (drop_more t i 0 l) ∙ digits_yes (get_or t i 0) (drop (i + 1) t) d; after = ap behind (drop_more t i 0 l) ∙ behind_yes (get_or t i 0) (drop (i + 1) t) d }
-
--- where none stands, they end
-pub record Over (t : List ℕ) (i : ℕ) : Type 0 where
-  pub ahead : digits (drop i t) ≡ []
-  pub after : behind (drop i t) ≡ drop i t
-
-pub no_digits : (t : List ℕ) (i : ℕ) → digit_at t i ≡ false → Over t i
-no_digits t i e =
-    ⊎_elim
-    (λ past. let gone = drop_all i t (ltb-false i (length t) past) in record { ahead = ap digits gone; after = ap behind gone ∙ sym gone })
-    (λ other. go (ltb i (length t)) refl other)
-    (and_cases _ _ e)
+reach : (t : List ℕ) → length (digits t) ≡ position_or_len (λ o. not (is_ascii_digit o)) t
+reach = is_position_or_len (λ t. length (digits t)) (λ o. not (is_ascii_digit o)) refl (λ o rest. one o rest (is_digit o) refl)
   where
-    go : (b : Bool) → ltb i (length t) ≡ b → is_digit (get_or t i 0) ≡ false → Over t i
-    go true l other =
-        let here = drop_more t i 0 (ltb-true i (length t) l) in
-        record { ahead = ap digits here ∙ digits_no (get_or t i 0) (drop (i + 1) t) (digit_false (get_or t i 0) other); after = ap behind here ∙ behind_no (get_or t i 0) (drop (i + 1) t) (digit_false (get_or t i 0) other) ∙ sym here }
-    go false l other =
-        let gone = drop_all i t (ltb-false i (length t) l) in
-        record { ahead = ap digits gone; after = ap behind gone ∙ sym gone }
+    one : (o : ℕ) (rest : List ℕ) (b : Bool) → is_digit o ≡ b → length (digits (o ∷ rest)) ≡ cond (not (is_ascii_digit o)) 0 (1 + length (digits rest))
+    one o rest true e = rw (e, digits) (omega arith)
+    one o rest false e = rw (e, digits) refl
 
--- there are digits at i exactly if a digit stands there
-some_digits : (t : List ℕ) (i : ℕ) (b : Bool) → digit_at t i ≡ b → ltb 0 (length (digits (drop i t))) ≡ b
-some_digits t i true e = ap (λ ds. ltb 0 (length ds)) (more_digits t i e).ahead ∙ lt-ltb 0 (length (get_or t i 0 ∷ digits (drop (i + 1) t))) (omega arith)
-some_digits t i false e = ap (λ ds. ltb 0 (length ds)) (no_digits t i e).ahead ∙ le-ltb 0 0 (omega arith)
+reach_within : (t : List ℕ) → length (digits t) ≤ length t
+reach_within t = omega (arith, length-append (digits t) (behind t), ap length (digits_behind t))
 
-padded_at : (t : List ℕ) (i : ℕ) → digit_at t i ≡ true → padded (digits (drop i t)) ≡ (eqb (get_or t i 0) 48 && digit_at t (i + 1))
-padded_at t i e = ap padded (more_digits t i e).ahead ∙ ap (λ b. eqb (get_or t i 0) 48 && b) (some_digits t (i + 1) (digit_at t (i + 1)) refl)
+first_or : (n l : ℕ) → n ≤ l → unwrap_or (cond (ltb n l) (Some n) None) l ≡ n
+first_or n l h = ⊎_elim (λ lt. rw (lt-ltb n l lt) refl) (λ ge. rw (le-ltb n l ge) (omega arith)) (cases_lt n l)
 
-pub padded_zero : (t : List ℕ) (i : ℕ) → digit_at t i ≡ true → get_or t i 0 ≡ 48 → padded (digits (drop i t)) ≡ digit_at t (i + 1)
-padded_zero t i e z = padded_at t i e ∙ ap (λ b. b && digit_at t (i + 1)) (eq-eqb (get_or t i 0) 48 z)
+stop_is : (t : List ℕ) → stop t ≡ length (digits t)
+stop_is t = first_or (position_or_len (λ o. not (is_ascii_digit o)) t) (length t) (omega (arith, reach t, reach_within t)) ∙ sym (reach t)
 
-pub padded_not : (t : List ℕ) (i : ℕ) → digit_at t i ≡ true → (get_or t i 0 ≡ 48 → ⊥) → padded (digits (drop i t)) ≡ false
-padded_not t i e z = padded_at t i e ∙ ap (λ b. b && digit_at t (i + 1)) (ne_eqb (get_or t i 0) 48 z)
+pub front_digits : (t : List ℕ) → take (stop t) t ≡ digits t
+front_digits t = ap (λ k. take k t) (stop_is t) ∙ sym (ap (take (length (digits t))) (digits_behind t)) ∙ take_at (digits t) (behind t) (length (digits t)) refl
+
+pub rest_behind : (t : List ℕ) → drop (stop t) t ≡ behind t
+rest_behind t = ap (λ k. drop k t) (stop_is t) ∙ sym (ap (drop (length (digits t))) (digits_behind t)) ∙ drop_at (digits t) (behind t) (length (digits t)) refl
 
 -- the value only grows with more digits
-pub value_grows : (n : ℕ) (ds : List ℕ) → n ≤ value_after n ds
+value_grows : (n : ℕ) (ds : List ℕ) → n ≤ value_after n ds
 value_grows n [] = omega arith
 value_grows n (d ∷ ds) = let more = value_grows (n * 10 + (d - 48)) ds in omega arith
+
+-- the digits ds write what those to come write behind n
+abbrev pub Sofar : List ℕ → ℕ → List ℕ → Type 0
+Sofar ds n rest = (value ds ≡ value_after n rest) × (n ≤ 1024)
+
+pub too_long : (ds : List ℕ) (n i : ℕ) → Sofar ds n (drop i ds) → i < length ds → 1024 < n * 10 + (get_or ds i 0 - 48) → None ≡ short_value ds
+too_long ds n i h within big =
+    let e : value ds ≡ value_after (n * 10 + (get_or ds i 0 - 48)) (drop (i + 1) ds) = h.0 ∙ ap (value_after n) (drop_more ds i 0 within) in
+    let g = value_grows (n * 10 + (get_or ds i 0 - 48)) (drop (i + 1) ds) in
+    rw (lt-ltb 1024 (value ds) (omega arith)) refl

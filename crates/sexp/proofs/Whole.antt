@@ -1,5 +1,5 @@
 -- The check of a whole text: what its answer is, and what that says. Assumes nothing.
-use Rattle.std.proofs.Common.{◌≡◌, ℕ, ◌<◌, ◌≤◌, true, false, List, [], ◌∷◌, length, drop, Ok, Err, Result, sym, refl, ap, ◌∙◌, arith, length-drop}
+use Rattle.std.proofs.Common.{Bor, ◌≡◌, ℕ, ◌<◌, ◌≤◌, true, false, List, [], ◌∷◌, length, drop, Ok, Err, Result, sym, refl, ap, ◌∙◌, arith, length-drop}
 use Rattle.std.proofs.lemmas.List.{drop_all}
 use Rattle.std.proofs.lemmas.Bool.Decides.{nat_tests}
 use Rattle.sexp.specs.declared.reader.Extent.{Extent}
@@ -18,41 +18,43 @@ use Rattle.sexp.proofs.Lexing.{over_true}
 use Rattle.sexp.proofs.Branches.{at_complete}
 use Rattle.sexp.proofs.Theory.{accepted_canonical, refused_listed_both, derives_its_text, one_record, same_is_equal}
 
--- where the check begins
-abbrev pub start : Progress
-start = record { cursor = record { at = 0; depth = 0; count = 0 }; deepest = 0 }
+-- where the check of a text begins
+abbrev pub start : Bor (List ℕ) → Progress
+start text = record { cursor = record { text = text; at = 0; depth = 0; count = 0 }; deepest = 0 }
 
 some_elements : (e : Elements) → Record e → 0 < count e
 some_elements none r = absurd r
 some_elements (atom a es) r = omega arith
 some_elements (list inner es) r = omega arith
 
-module _ (t : List ℕ) where
-  pub unsized : missized t ≡ true → Err TextLength ≡ answer (verdict t)
+module _ (text : Bor (List ℕ)) where
+  pub unsized : missized text.now ≡ true → Err TextLength ≡ answer (verdict text.now)
   unsized e = rw (e, verdict) refl
 
-  module _ (sized : missized t ≡ false) where
-    is_read : verdict t ≡ concluded (reading_from t start.cursor)
+  module _ (sized : missized text.now ≡ false) where
+    is_read : verdict text.now ≡ concluded (reading_from (start text).cursor)
     is_read = rw (sized, verdict) refl
 
-    pub faulty : (k : Refusal) → reading_from t start.cursor ≡ refused k → Err k ≡ answer (verdict t)
+    pub faulty : (k : Refusal) → reading_from (start text).cursor ≡ refused k → Err k ≡ answer (verdict text.now)
     faulty k e = sym (ap answer (is_read ∙ ap concluded e))
 
-    module _ (to : Progress) (e : Elements) (root : Record e) (passed : Spans t start to e) where
+    module _ (to : Progress) (e : Elements) (root : Record e) (passed : Spans (start text) to e) where
       over : complete to.cursor.depth to.cursor.count ≡ true
       over = let some = some_elements e root in let l = passed.level in let c = passed.counted in grind (arith, nat_tests)
 
-      pub whole : length t ≤ to.cursor.at → Ok (record { elements = to.cursor.count; depth = to.deepest }) ≡ answer (verdict t)
+      pub whole : length text.now ≤ to.cursor.at → Ok (record { elements = to.cursor.count; depth = to.deepest }) ≡ answer (verdict text.now)
       whole past =
-          let ends : reading_from t to.cursor ≡ read (none ∷ []) = ap (reading (length t) 0 to.cursor.depth to.cursor.count to.cursor.at) (drop_all to.cursor.at t past) ∙ step_whole (length t) to.cursor.depth to.cursor.count to.cursor.at (over_true to.cursor.depth to.cursor.count over) in
-          let told : verdict t ≡ accepted e = is_read ∙ ap concluded (passed.goes_on ∙ ap (onward e) ends) ∙ ap accepted (then-none e) in
+          let end : length to.cursor.text.now ≤ to.cursor.at = omega (arith, past, ap (λ x. length x.now) passed.same) in
+          let ends : reading_from to.cursor ≡ read (none ∷ []) = ap (reading (length to.cursor.text.now) 0 to.cursor.depth to.cursor.count to.cursor.at) (drop_all to.cursor.at to.cursor.text.now end) ∙ step_whole (length to.cursor.text.now) to.cursor.depth to.cursor.count to.cursor.at (over_true to.cursor.depth to.cursor.count over) in
+          let told : verdict text.now ≡ accepted e = is_read ∙ ap concluded (passed.goes_on ∙ ap (onward e) ends) ∙ ap accepted (then-none e) in
           let n : to.cursor.count ≡ count e = omega (arith, passed.counted) in
           let d : to.deepest ≡ depth e = omega (arith, passed.measured) in
           (λ i. Ok (record { elements = n i; depth = d i })) ∙ sym (ap answer told)
 
-      pub trailing : to.cursor.at < length t → Err (Malformed to.cursor.at) ≡ answer (verdict t)
+      pub trailing : to.cursor.at < length text.now → Err (Malformed to.cursor.at) ≡ answer (verdict text.now)
       trailing more =
-          let stops = step_fault (length t) to.cursor.depth to.cursor.count to.cursor.at (drop to.cursor.at t) (Malformed to.cursor.at) (simp length-drop (omega arith)) (at_complete t to.cursor more over) in
+          let within : to.cursor.at < length to.cursor.text.now = omega (arith, more, ap (λ x. length x.now) passed.same) in
+          let stops = step_fault (length to.cursor.text.now) to.cursor.depth to.cursor.count to.cursor.at (drop to.cursor.at to.cursor.text.now) (Malformed to.cursor.at) (simp length-drop (omega arith)) (at_complete to.cursor _ within refl over) in
           faulty (Malformed to.cursor.at) (passed.goes_on ∙ ap (onward e) stops)
 
 -- what the answer says of the text

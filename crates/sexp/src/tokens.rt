@@ -1,7 +1,9 @@
-// The tokens of a text, read one at a time from the left.
-ghost use Rattle.std.specs.Prelude.{◌≡◌, ◌<◌, true, length, drop};
-ghost use Rattle.sexp.specs.Checks.{digit_at, TellsLength};
-ghost use Rattle.sexp.specs.Reading.{is_digit, digits, behind, padded, string_at, begins, complete, full, closes};
+//! The tokens of a text, read one at a time from the left.
+ghost use Rattle.std.specs.Prelude.{◌≡◌, ◌<◌, ◌≤◌, length, not};
+ghost use Rattle.std.specs.Char.{is_ascii_digit};
+ghost use Rattle.std.specs.List.{position};
+ghost use Rattle.sexp.specs.Checks.{short_value, string_from};
+ghost use Rattle.sexp.specs.Reading.{digits, behind, padded, begins, complete, full, closes};
 ghost use Rattle.sexp.specs.Tokens.{lexeme_at, Tells, StandsInText, FaultsAsListed};
 
 use crate::refusals::Refusal;
@@ -13,7 +15,7 @@ pub const MOST_ELEMENTS: usize = 4096;
 
 pub const MOST_DEPTH: usize = 32;
 
-// A token, told with its offset. An atom's octets are a part of the text; its offset is that of its first digit.
+/// A token, told with its offset. An atom's octets are a part of the text; its offset is that of its first digit.
 #[derive(Clone, Copy, Debug)]
 pub enum Token<'a> {
     Opening { offset: usize },
@@ -21,173 +23,166 @@ pub enum Token<'a> {
     Atom { offset: usize, octets: &'a [u8] },
 }
 
-// Where reading stands: an offset, the number of lists open there, and the number of elements begun before it.
+/// Where reading stands in a text: an offset, the number of lists open there, and the number of elements begun before it.
 #[derive(Clone, Copy, Debug)]
-pub struct Cursor {
+pub struct Cursor<'a> {
+    pub text: &'a [u8],
     pub at: usize,
     pub depth: usize,
     pub count: usize,
 }
 
-// A token, and the cursor behind it.
+/// A token, and the cursor behind it.
 #[derive(Clone, Copy, Debug)]
 pub struct Step<'a> {
     pub token: Token<'a>,
-    pub next: Cursor,
+    pub next: Cursor<'a>,
 }
 
-// An atom's length, and the offset behind its digits.
-#[derive(Clone, Copy)]
-struct Length {
-    value: usize,
-    end: usize,
-}
-
-fn is_digit(octet: u8) -> bool
-    ensures { result ≡ is_digit octet }
+// The index of the first octet that is no digit.
+fn first_other(text: &[u8]) -> Option<usize>
+    ensures { result ≡ position (λ octet. not (is_ascii_digit octet)) text.now }
 {
-    octet >= b'0' && octet <= b'9'
+    text.iter().position(|octet| !octet.is_ascii_digit())
 }
 
-// Whether a digit stands at an offset.
-fn digit_at(text: &[u8], at: usize) -> bool
-    ensures { result ≡ digit_at text.now at }
+// The digits at the front of a text, and what stands behind them.
+fn split_digits(text: &[u8]) -> (&[u8], &[u8])
+    ensures digits { result.0.now ≡ digits text.now }
+    ensures behind { result.1.now ≡ behind text.now }
 {
-    at < text.len() && is_digit(text[at])
+    text.split_at(first_other(text).unwrap_or(text.len()))
 }
 
-// Whether a length, whose first digit stands at an offset, is of several digits and begins with 0.
-fn is_padded(text: &[u8], at: usize) -> bool
-    requires { digit_at text.now at ≡ true }
-    ensures { result ≡ padded (digits (drop at text.now)) }
+// Whether a length is of several digits and begins with 0.
+fn is_padded(digits: &[u8]) -> bool
+    ensures { result ≡ padded digits.now }
 {
-    if text[at] != b'0' {
-        return false;
-    }
-    digit_at(text, at + 1)
+    matches!(digits, [b'0', _, ..])
 }
 
-// The length whose first digit stands at an offset.
-fn read_length(text: &[u8], at: usize) -> Result<Length, Refusal>
-    requires { digit_at text.now at ≡ true }
-    ensures { TellsLength text.now at (string_at (length text.now) at (digits (drop at text.now)) (behind (drop at text.now))) result }
+// The number that digits write, if an atom may have so many octets.
+fn length_of(digits: &[u8]) -> Option<usize>
+    ensures { result ≡ short_value digits.now }
 {
-    if is_padded(text, at) {
-        return Err(Refusal::Malformed { offset: at });
-    }
     let mut value = 0;
-    let mut end = at;
-    while digit_at(text, end) {
-        value = value * 10 + (text[end] - b'0') as usize;
+    for digit in digits {
+        value = value * 10 + usize::from(digit.saturating_sub(b'0'));
         if value > MOST_OCTETS {
-            return Err(Refusal::OverLimit { offset: at });
+            return None;
         }
-        end += 1;
     }
-    Ok(Length { value, end })
-}
-
-// The atom at a cursor, where a digit stands and one more element is within the limits.
-fn read_atom<'a>(text: &'a [u8], from: Cursor) -> Result<Step<'a>, Refusal>
-    requires digit { digit_at text.now from.at ≡ true }
-    requires room { from.count < 4096 }
-    ensures { Tells from (string_at (length text.now) from.at (digits (drop from.at text.now)) (behind (drop from.at text.now))) result }
-{
-    let length = read_length(text, from.at)?;
-    if length.end >= text.len() {
-        return Err(Refusal::Malformed { offset: text.len() });
-    }
-    if text[length.end] != b':' {
-        return Err(Refusal::Malformed { offset: length.end });
-    }
-    let start = length.end + 1;
-    if text.len() - start < length.value {
-        return Err(Refusal::Malformed { offset: text.len() });
-    }
-    let end = start + length.value;
-    let token = Token::Atom {
-        offset: from.at,
-        octets: &text[start..end],
-    };
-    let next = Cursor {
-        at: end,
-        depth: from.depth,
-        count: from.count + 1,
-    };
-    Ok(Step { token, next })
+    Some(value)
 }
 
 // Whether an octet begins an element.
 fn begins_element(octet: u8) -> bool
     ensures { result ≡ begins octet }
 {
-    octet == b'(' || is_digit(octet)
+    octet == b'(' || octet.is_ascii_digit()
 }
 
-impl Cursor {
+impl<'a> Cursor<'a> {
     // Whether the root has been read to its end.
     fn is_complete(self) -> bool
-        ensures { result ≡ complete self.depth self.count }
+        ensures { result ≡ complete self.entry.depth self.entry.count }
     {
         self.depth == 0 && self.count > 0
     }
 
     // Whether one more element would pass a limit.
     fn is_full(self) -> bool
-        ensures { result ≡ full self.depth self.count }
+        ensures { result ≡ full self.entry.depth self.entry.count }
     {
         self.depth >= MOST_DEPTH || self.count >= MOST_ELEMENTS
     }
 
     // Whether an octet closes the innermost list.
     fn is_closed_by(self, octet: u8) -> bool
-        ensures { result ≡ closes self.depth octet }
+        ensures { result ≡ closes self.entry.depth octet }
     {
         octet == b')' && self.depth > 0
     }
-}
 
-// The token at a cursor. Asked where the text has ended, it answers that the text ends too early.
-pub fn next<'a>(text: &'a [u8], from: Cursor) -> Result<Step<'a>, Refusal>
-    ensures token { Tells from (lexeme_at text.now from) result }
-    ensures rest { StandsInText text.now from result }
-    ensures faults { FaultsAsListed text.now from result }
-{
-    let at = from.at;
-    if at >= text.len() {
-        return Err(Refusal::Malformed { offset: text.len() });
-    }
-    let octet = text[at];
-    if from.is_complete() {
-        return Err(Refusal::Malformed { offset: at });
-    }
-    if from.is_closed_by(octet) {
-        let next = Cursor {
-            at: at + 1,
-            depth: from.depth - 1,
-            count: from.count,
+    // The atom here, where a digit stands and one more element is within the limits.
+    fn atom(self) -> Result<Step<'a>, Refusal>
+        requires inside { self.at ≤ length self.text.now }
+        requires room { self.count < MOST_ELEMENTS }
+        ensures { Tells self.entry (string_from self.entry) result }
+    {
+        let end = self.text.len();
+        let (_, rest) = self.text.split_at(self.at);
+        let (digits, behind) = split_digits(rest);
+        if is_padded(digits) {
+            return Err(Refusal::Malformed { offset: self.at });
+        }
+        let Some(length) = length_of(digits) else {
+            return Err(Refusal::OverLimit { offset: self.at });
         };
-        return Ok(Step {
-            token: Token::Closing { offset: at },
-            next,
-        });
-    }
-    if !begins_element(octet) {
-        return Err(Refusal::Malformed { offset: at });
-    }
-    if from.is_full() {
-        return Err(Refusal::OverLimit { offset: at });
-    }
-    if octet == b'(' {
-        let next = Cursor {
-            at: at + 1,
-            depth: from.depth + 1,
-            count: from.count + 1,
+        let colon = self.at + digits.len();
+        let octets = match behind {
+            [b':', octets @ ..] => octets,
+            [] => return Err(Refusal::Malformed { offset: end }),
+            [..] => return Err(Refusal::Malformed { offset: colon }),
         };
-        return Ok(Step {
-            token: Token::Opening { offset: at },
-            next,
-        });
+        let Some(octets) = octets.get(..length) else {
+            return Err(Refusal::Malformed { offset: end });
+        };
+        Ok(Step {
+            token: Token::Atom {
+                offset: self.at,
+                octets,
+            },
+            next: Cursor {
+                at: colon + 1 + length,
+                count: self.count + 1,
+                ..self
+            },
+        })
     }
-    read_atom(text, from)
+
+    /// The token here. Asked where the text has ended, it answers that the text ends too early.
+    pub fn next(self) -> Result<Step<'a>, Refusal>
+        ensures token { Tells self.entry (lexeme_at self.entry) result }
+        ensures rest { StandsInText self.entry result }
+        ensures faults { FaultsAsListed self.entry result }
+    {
+        let offset = self.at;
+        let Some(&octet) = self.text.get(offset) else {
+            return Err(Refusal::Malformed {
+                offset: self.text.len(),
+            });
+        };
+        if self.is_complete() {
+            return Err(Refusal::Malformed { offset });
+        }
+        if self.is_closed_by(octet) {
+            return Ok(Step {
+                token: Token::Closing { offset },
+                next: Cursor {
+                    at: offset + 1,
+                    depth: self.depth - 1,
+                    ..self
+                },
+            });
+        }
+        if !begins_element(octet) {
+            return Err(Refusal::Malformed { offset });
+        }
+        if self.is_full() {
+            return Err(Refusal::OverLimit { offset });
+        }
+        if octet == b'(' {
+            return Ok(Step {
+                token: Token::Opening { offset },
+                next: Cursor {
+                    at: offset + 1,
+                    depth: self.depth + 1,
+                    count: self.count + 1,
+                    ..self
+                },
+            });
+        }
+        self.atom()
+    }
 }

@@ -9,22 +9,22 @@ use Rattle.sexp.proofs.reader.+check.Goals as goal
 
 pub check_element-returns-in-Closing : goal.check_element-returns-in-Closing
 check_element-returns-in-Closing t c =
-    let told = subst (λ k. TellsToken c.args.from.cursor (lexeme_at c.args.text.now c.args.from.cursor) k c.in_ok-step.step.next) c.in-Closing.is c.in_ok-step.ensures.token in
-    found_close c.args.text.now c.args.from c.in_ok-step.step.next told.0 told.2
+    let told = subst (λ k. TellsToken c.args.from.cursor (lexeme_at c.args.from.cursor) k c.in_ok-step.step.next) c.in-Closing.is c.in_ok-step.ensures.token in
+    found_close c.args.from c.in_ok-step.step.next told.0 told.2
 
 pub check_element-returns-in-Atom : goal.check_element-returns-in-Atom
 check_element-returns-in-Atom t c =
-    let told = subst (λ k. TellsToken c.args.from.cursor (lexeme_at c.args.text.now c.args.from.cursor) k c.in_ok-step.step.next) c.in-Atom.is c.in_ok-step.ensures.token in
-    found_atom c.args.text.now c.args.from c.in_ok-step.step.next c.deeper-deepest.result c.in-Atom.octets.now told.0 told.1 told.3 c.deeper-deepest.ensures
+    let told = subst (λ k. TellsToken c.args.from.cursor (lexeme_at c.args.from.cursor) k c.in_ok-step.step.next) c.in-Atom.is c.in_ok-step.ensures.token in
+    found_atom c.args.from c.in_ok-step.step.next c.max-deepest.result c.in-Atom.octets.now told.0 told.1 told.3 c.max-deepest.ensures
 
 pub check_element-returns-in_ok-behind-in-Opening : goal.check_element-returns-in_ok-behind-in-Opening
 check_element-returns-in_ok-behind-in-Opening t c =
-    let told = subst (λ k. TellsToken c.args.from.cursor (lexeme_at c.args.text.now c.args.from.cursor) k c.in_ok-step.step.next) c.in-Opening.is c.in_ok-step.ensures.token in
+    let told = subst (λ k. TellsToken c.args.from.cursor (lexeme_at c.args.from.cursor) k c.in_ok-step.step.next) c.in-Opening.is c.in_ok-step.ensures.token in
     let found = c.in_ok-behind-in-Opening.ensures in
-    found_list c.args.text.now c.args.from c.in_ok-step.step.next c.deeper-deepest-in-Opening.result c.in_ok-behind-in-Opening.behind found.0 told.0 told.2 c.deeper-deepest-in-Opening.ensures found.1
+    found_list c.args.from c.in_ok-step.step.next c.max-deepest-in-Opening.result c.in_ok-behind-in-Opening.behind found.0 told.0 told.2 c.max-deepest-in-Opening.ensures found.1
 
 pub check_list-loop-behind-init : goal.check_list-loop-behind-init
-check_list-loop-behind-init t c = ((none, spans_none c.args.text.now c.args.from c.requires.measured), c.requires.measured)
+check_list-loop-behind-init t c = ((none, spans_none c.args.from c.requires.measured), c.requires.measured)
 
 pub check_list-check_element-requires : goal.check_list-check_element-requires
 check_list-check_element-requires t c =
@@ -36,17 +36,17 @@ pub check_list-returns-in_err-behind : goal.check_list-returns-in_err-behind
 check_list-returns-in_err-behind t c =
     let p = err_from_is_err_and c.from_residual.result c.from_residual.ensures.1 in
     let so_far = c.loop-behind.invariant.0 in
-    rw (p.1, p.2) (spans_refused c.args.text.now c.args.from c.loop-behind.at so_far.0 _ so_far.1 c.in_err-behind.ensures)
+    rw (p.1, p.2) (spans_refused c.args.from c.loop-behind.at so_far.0 _ so_far.1 c.in_err-behind.ensures)
 
 pub check_list-loop-behind-preserved : goal.check_list-loop-behind-preserved
 check_list-loop-behind-preserved t c =
-    let found = subst (FindsThat c.args.text.now c.loop-behind.at) c.in-Element.is c.in_ok-behind.ensures in
+    let found = subst (FindsThat c.loop-behind.at) c.in-Element.is c.in_ok-behind.ensures in
     let so_far = c.loop-behind.invariant.0 in
-    let more = spans_more c.args.text.now c.args.from c.loop-behind.at c.in-Element.behind so_far.0 found.0.0 so_far.1 found.0.2 in
-    ((_, more), spans_deep c.args.text.now c.args.from c.in-Element.behind _ more)
+    let more = spans_more c.args.from c.loop-behind.at c.in-Element.behind so_far.0 found.0.0 so_far.1 found.0.2 in
+    ((_, more), spans_deep c.args.from c.in-Element.behind _ more)
 
 pub check_list-returns-in-Close : goal.check_list-returns-in-Close
 check_list-returns-in-Close t c =
-    let found = subst (FindsThat c.args.text.now c.loop-behind.at) c.in-Close.is c.in_ok-behind.ensures in
+    let found = subst (FindsThat c.loop-behind.at) c.in-Close.is c.in_ok-behind.ensures in
     let so_far = c.loop-behind.invariant.0 in
-    (so_far.0, spans_close c.args.text.now c.args.from c.loop-behind.at c.in-Close.behind so_far.0 so_far.1 found)
+    (so_far.0, spans_close c.args.from c.loop-behind.at c.in-Close.behind so_far.0 so_far.1 found)

@@ -12,8 +12,8 @@ decreases-check_list l = 2 * (33 - l.from.cursor.depth) + 1
 
 -- the elements passed so far
 abbrev pub invariant-check_list-loop-behind : goal.invariant-check_list-loop-behind
-invariant-check_list-loop-behind l = ((es : Elements) × Spans l.text l.initial.at l.at es) × (l.at.cursor.depth ≤ l.at.deepest)
+invariant-check_list-loop-behind l = ((es : Elements) × Spans l.initial.at l.at es) × (l.at.cursor.depth ≤ l.at.deepest)
 
 -- the text that is left
 abbrev pub decreases-check_list-loop-behind : goal.decreases-check_list-loop-behind
-decreases-check_list-loop-behind l = length l.text - l.at.cursor.at
+decreases-check_list-loop-behind l = length l.initial.at.cursor.text.now - l.at.cursor.at
