@@ -1,16 +1,9 @@
-use Rattle.std.proofs.Common.{◌<◌, subst, inl, arith, rules}
-use Rattle.std.proofs.lemmas.Result.{err_from_is_err_and}
+use Rattle.std.proofs.Common.{subst}
 use Rattle.sexp.specs.Elements.{none}
 use Rattle.sexp.specs.Tokens.{lexeme_at, TellsToken}
 use Rattle.sexp.specs.Checks.{FindsThat}
-use Rattle.sexp.proofs.Lexing.{over_not}
-use Rattle.sexp.proofs.Spanned.{found_close, found_atom, found_list, spans_none, spans_more, spans_deep, spans_close, spans_refused}
+use Rattle.sexp.proofs.Spanned.{found_atom, found_list, spans_none, spans_more, spans_deep}
 use Rattle.sexp.proofs.reader.+check.Goals as goal
-
-pub check_element-returns-in-Closing : goal.check_element-returns-in-Closing
-check_element-returns-in-Closing t c =
-    let told = subst (λ k. TellsToken c.args.from.cursor (lexeme_at c.args.from.cursor) k c.in_ok-step.step.next) c.in-Closing.is c.in_ok-step.ensures.token in
-    found_close c.args.from c.in_ok-step.step.next told.0 told.2
 
 pub check_element-returns-in-Atom : goal.check_element-returns-in-Atom
 check_element-returns-in-Atom t c =
@@ -26,27 +19,9 @@ check_element-returns-in_ok-behind-in-Opening t c =
 pub check_list-loop-behind-init : goal.check_list-loop-behind-init
 check_list-loop-behind-init t c = ((none, spans_none c.args.from c.requires.measured), c.requires.measured)
 
-pub check_list-check_element-requires : goal.check_list-check_element-requires
-check_list-check_element-requires t c =
-    let so_far = c.loop-behind.invariant.0 in
-    let open-still : 0 < c.loop-behind.at.cursor.depth = omega (arith, so_far.1.level, c.requires.inside) in
-    (search (rules, so_far.1.level), (over_not _ _ (inl open-still), c.loop-behind.invariant.1))
-
-pub check_list-returns-in_err-behind : goal.check_list-returns-in_err-behind
-check_list-returns-in_err-behind t c =
-    let p = err_from_is_err_and c.from_residual.result c.from_residual.ensures.1 in
-    let so_far = c.loop-behind.invariant.0 in
-    rw (p.1, p.2) (spans_refused c.args.from c.loop-behind.at so_far.0 _ so_far.1 c.in_err-behind.ensures)
-
 pub check_list-loop-behind-preserved : goal.check_list-loop-behind-preserved
 check_list-loop-behind-preserved t c =
     let found = subst (FindsThat c.loop-behind.at) c.in-Element.is c.in_ok-behind.ensures in
     let so_far = c.loop-behind.invariant.0 in
     let more = spans_more c.args.from c.loop-behind.at c.in-Element.behind so_far.0 found.0.0 so_far.1 found.0.2 in
     ((_, more), spans_deep c.args.from c.in-Element.behind _ more)
-
-pub check_list-returns-in-Close : goal.check_list-returns-in-Close
-check_list-returns-in-Close t c =
-    let found = subst (FindsThat c.loop-behind.at) c.in-Close.is c.in_ok-behind.ensures in
-    let so_far = c.loop-behind.invariant.0 in
-    (so_far.0, spans_close c.args.from c.loop-behind.at c.in-Close.behind so_far.0 so_far.1 found)
