@@ -1,4 +1,4 @@
-// Goes through example cases, and prints each with what it gave and whether that is what it should be.
+//! Goes through example cases, and prints each with what it gave and whether that is what it should be.
 #![tactic(auto)]
 
 mod outcome;
@@ -9,14 +9,11 @@ use std::io;
 use std::process::ExitCode;
 
 fn main(rt: HostRuntime) -> io::Result<ExitCode> {
-    let mut tally = Tally::new();
-    texts::written_texts(&rt, &mut tally)?;
-    texts::built_texts(&rt, &mut tally)?;
-    let cases = tally.cases;
-    let wrong = tally.wrong;
+    let Tally { cases, wrong } = texts::go_through(&rt)?;
     println!(rt; "{cases} cases, {wrong} wrong")?;
-    if wrong > 0 {
-        return Ok(ExitCode::FAILURE);
-    }
-    Ok(ExitCode::SUCCESS)
+    Ok(if wrong == 0 {
+        ExitCode::SUCCESS
+    } else {
+        ExitCode::FAILURE
+    })
 }

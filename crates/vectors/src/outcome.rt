@@ -1,68 +1,72 @@
-// What a case should give, what it gave, and how many were wrong.
+//! What a case should give, what it gave, and how many were wrong.
 use sexp::reader::Extent;
 use sexp::refusals::Refusal;
 use std::{fmt, io};
 
-// What the check of a text should answer, or did.
-#[derive(Clone, Copy, PartialEq)]
-pub enum Outcome {
-    Accepted { elements: usize, depth: usize },
-    Refused { number: u8, offset: Option<usize> },
+/// What a refusal tells: its number, and where it has one its offset.
+#[derive(Clone, Copy, PartialEq, Eq)]
+pub struct Told {
+    pub number: u8,
+    pub offset: Option<usize>,
 }
 
-pub(crate) fn accepted(elements: usize, depth: usize) -> Outcome {
-    Outcome::Accepted { elements, depth }
-}
+impl From<Refusal> for Told {
+    ghost use Rattle.std.specs.Prelude.{◌≡◌};
+    ghost use Rattle.sexp.specs.Refusals.{number_of, offset_of};
 
-pub(crate) fn refused(number: u8, offset: usize) -> Outcome {
-    Outcome::Refused {
-        number,
-        offset: Some(offset),
-    }
-}
+    ghost from_gives = { λ r t. t ≡ record { number = number_of r; offset = offset_of r } };
 
-pub(crate) fn outcome_of(answer: Result<Extent, Refusal>) -> Outcome {
-    match answer {
-        Ok(extent) => accepted(extent.elements, extent.depth),
-        Err(refusal) => Outcome::Refused {
+    fn from(refusal: Refusal) -> Told {
+        Told {
             number: refusal.number(),
             offset: refusal.offset(),
-        },
-    }
-}
-
-impl fmt::Display for Outcome {
-    fn fmt<W: fmt::Write>(&self, f: &mut fmt::Formatter<W>) -> fmt::Result {
-        match *self {
-            Outcome::Accepted { elements, depth } => write!(
-                f,
-                "accepted, {elements} elements, depth {depth}"
-            ),
-            Outcome::Refused {
-                number,
-                offset: Some(offset),
-            } => write!(f, "refused {number} at {offset}"),
-            Outcome::Refused {
-                number,
-                offset: None,
-            } => write!(f, "refused {number}"),
         }
     }
 }
 
-// How many cases there were, and how many gave something else than they should.
-#[derive(Drop)]
+// The text of a `Refusal`, written again: what a case should give is a number and an offset, and no `Refusal`.
+impl fmt::Display for Told {
+    ghost use Rattle.std.specs.Prelude.{Some};
+    ghost use Rattle.sexp.specs.Lines.{placed};
+
+    ghost output = { λ t. Some (placed t.number t.offset) };
+
+    fn fmt<W: fmt::Write>(&self, f: &mut fmt::Formatter<W>) -> fmt::Result {
+        let number = self.number;
+        match self.offset {
+            Some(offset) => write!(f, "refused {number} at {offset}"),
+            None => write!(f, "refused {number}"),
+        }
+    }
+}
+
+/// What the check of a text should answer, or did.
+#[derive(Clone, Copy, PartialEq, Eq)]
+pub struct Outcome(pub Result<Extent, Told>);
+
+impl fmt::Display for Outcome {
+    ghost use Rattle.std.specs.Prelude.{Some};
+    ghost use Rattle.vectors.specs.Outcomes.{outcome_line};
+
+    ghost output = { λ o. Some (outcome_line o.0) };
+
+    fn fmt<W: fmt::Write>(&self, f: &mut fmt::Formatter<W>) -> fmt::Result {
+        match self.0 {
+            Ok(extent) => write!(f, "accepted, {extent}"),
+            Err(told) => write!(f, "{told}"),
+        }
+    }
+}
+
+/// How many cases there were, and how many gave something else than they should.
+#[derive(Default, Drop)]
 pub struct Tally {
     pub cases: u32,
     pub wrong: u32,
 }
 
 impl Tally {
-    pub(crate) fn new() -> Tally {
-        Tally { cases: 0, wrong: 0 }
-    }
-
-    // Prints a case, and counts it.
+    /// Prints a case, and counts it.
     pub(crate) fn case(
         &mut self,
         rt: &HostRuntime,
