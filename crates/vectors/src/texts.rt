@@ -1,7 +1,9 @@
 //! Texts: the examples that RFC 9804 gives, and a case for each rule of the text form and its corners.
-use crate::outcome::{Outcome, Tally, Told};
+use crate::outcome::{Outcome, Tally};
+use Refusal::{Malformed, OverLimit, TextLength};
 use Text::{LongList, Repeated, Written};
 use sexp::reader::{Extent, check};
+use sexp::refusals::Refusal;
 use std::alloc::{AllocError, Global};
 use std::io;
 
@@ -55,10 +57,9 @@ impl Text {
     }
 }
 
-// Each text, with the elements and the depth of its record, or the number and the offset of its refusal.
-// These come from outside the program, and check `number` and `offset` too, so they are written as numbers.
+// Each text, with the elements and the depth of its record, or with its refusal.
 // A `static` that is borrowed: a proof that goes over a `const` of so many parts does not fit into memory.
-static CASES: [(Text, Result<(usize, usize), (u8, usize)>); 66] = [
+static CASES: [(Text, Result<(usize, usize), Refusal>); 66] = [
     // Accepted. The first nine are examples that RFC 9804 gives of verbatim strings and of the canonical form.
     // They were not compared with the RFC itself, of which no copy was at hand.
     (Written("3:abc"), Ok((1, 1))),
@@ -73,47 +74,56 @@ static CASES: [(Text, Result<(usize, usize), (u8, usize)>); 66] = [
     (Written("()"), Ok((1, 1))),
     (Written("(())"), Ok((2, 2))),
     // The RFC's example of a display hint, refused at its bracket.
-    (Written("(4:icon[12:image/bitmap]9:xxxxxxxxx)"), Err((2, 7))),
+    (
+        Written("(4:icon[12:image/bitmap]9:xxxxxxxxx)"),
+        Err(Malformed { offset: 7 }),
+    ),
     // no text
-    (Written(""), Err((1, 0))),
+    (Written(""), Err(TextLength)),
     // no element begins
-    (Written(")"), Err((2, 0))),
-    (Written("abc"), Err((2, 0))),
-    (Written("-1:a"), Err((2, 0))),
-    (Written(" ()"), Err((2, 0))),
-    (Written("( )"), Err((2, 1))),
-    (Written("(1:a 1:b)"), Err((2, 4))),
-    (Written("[1:a]1:b"), Err((2, 0))),
-    (Written("#616263#"), Err((2, 0))),
-    (Written("|YWJj|"), Err((2, 0))),
-    (Written("{MzphYmM=}"), Err((2, 0))),
+    (Written(")"), Err(Malformed { offset: 0 })),
+    (Written("abc"), Err(Malformed { offset: 0 })),
+    (Written("-1:a"), Err(Malformed { offset: 0 })),
+    (Written(" ()"), Err(Malformed { offset: 0 })),
+    (Written("( )"), Err(Malformed { offset: 1 })),
+    (Written("(1:a 1:b)"), Err(Malformed { offset: 4 })),
+    (Written("[1:a]1:b"), Err(Malformed { offset: 0 })),
+    (Written("#616263#"), Err(Malformed { offset: 0 })),
+    (Written("|YWJj|"), Err(Malformed { offset: 0 })),
+    (Written("{MzphYmM=}"), Err(Malformed { offset: 0 })),
     // lengths, and the colon behind them
-    (Written("01:a"), Err((2, 0))),
-    (Written("00:"), Err((2, 0))),
-    (Written("01"), Err((2, 0))),
-    (Written("01025:"), Err((2, 0))),
-    (Written("1025:"), Err((3, 0))),
-    (Written("1025"), Err((3, 0))),
-    (Written("1025x"), Err((3, 0))),
-    (Written("18446744073709551617:a"), Err((3, 0))),
-    (Written("(1:a99999999999999999999999999999999"), Err((3, 4))),
-    (Written("1x"), Err((2, 1))),
-    (Written("(1:a10"), Err((2, 6))),
-    (Written("12;hello world!"), Err((2, 2))),
+    (Written("01:a"), Err(Malformed { offset: 0 })),
+    (Written("00:"), Err(Malformed { offset: 0 })),
+    (Written("01"), Err(Malformed { offset: 0 })),
+    (Written("01025:"), Err(Malformed { offset: 0 })),
+    (Written("1025:"), Err(OverLimit { offset: 0 })),
+    (Written("1025"), Err(OverLimit { offset: 0 })),
+    (Written("1025x"), Err(OverLimit { offset: 0 })),
+    (
+        Written("18446744073709551617:a"),
+        Err(OverLimit { offset: 0 }),
+    ),
+    (
+        Written("(1:a99999999999999999999999999999999"),
+        Err(OverLimit { offset: 4 }),
+    ),
+    (Written("1x"), Err(Malformed { offset: 1 })),
+    (Written("(1:a10"), Err(Malformed { offset: 6 })),
+    (Written("12;hello world!"), Err(Malformed { offset: 2 })),
     // the text ends too early
-    (Written("1"), Err((2, 1))),
-    (Written("10"), Err((2, 2))),
-    (Written("1:"), Err((2, 2))),
-    (Written("3:ab"), Err((2, 4))),
-    (Written("(3:a)"), Err((2, 5))),
-    (Written("1024:a"), Err((2, 6))),
-    (Written("(1:a"), Err((2, 4))),
-    (Written("((1:a)"), Err((2, 6))),
+    (Written("1"), Err(Malformed { offset: 1 })),
+    (Written("10"), Err(Malformed { offset: 2 })),
+    (Written("1:"), Err(Malformed { offset: 2 })),
+    (Written("3:ab"), Err(Malformed { offset: 4 })),
+    (Written("(3:a)"), Err(Malformed { offset: 5 })),
+    (Written("1024:a"), Err(Malformed { offset: 6 })),
+    (Written("(1:a"), Err(Malformed { offset: 4 })),
+    (Written("((1:a)"), Err(Malformed { offset: 6 })),
     // an octet after the root
-    (Written("()()"), Err((2, 2))),
-    (Written("(1:a))"), Err((2, 5))),
-    (Written("1:a1:b"), Err((2, 3))),
-    (Written("1:a "), Err((2, 3))),
+    (Written("()()"), Err(Malformed { offset: 2 })),
+    (Written("(1:a))"), Err(Malformed { offset: 5 })),
+    (Written("1:a1:b"), Err(Malformed { offset: 3 })),
+    (Written("1:a "), Err(Malformed { offset: 3 })),
     // Accepted, at a limit.
     (
         Repeated {
@@ -164,7 +174,7 @@ static CASES: [(Text, Result<(usize, usize), (u8, usize)>); 66] = [
             times: 31,
             back: "",
         },
-        Err((2, 31)),
+        Err(Malformed { offset: 31 }),
     ),
     (
         Repeated {
@@ -174,7 +184,7 @@ static CASES: [(Text, Result<(usize, usize), (u8, usize)>); 66] = [
             times: 33,
             back: "",
         },
-        Err((3, 32)),
+        Err(OverLimit { offset: 32 }),
     ),
     (
         Repeated {
@@ -184,7 +194,7 @@ static CASES: [(Text, Result<(usize, usize), (u8, usize)>); 66] = [
             times: 32,
             back: "0:",
         },
-        Err((3, 32)),
+        Err(OverLimit { offset: 32 }),
     ),
     (
         Repeated {
@@ -194,7 +204,7 @@ static CASES: [(Text, Result<(usize, usize), (u8, usize)>); 66] = [
             times: 32,
             back: "01:",
         },
-        Err((3, 32)),
+        Err(OverLimit { offset: 32 }),
     ),
     (
         Repeated {
@@ -204,7 +214,7 @@ static CASES: [(Text, Result<(usize, usize), (u8, usize)>); 66] = [
             times: 32,
             back: "1025:",
         },
-        Err((3, 32)),
+        Err(OverLimit { offset: 32 }),
     ),
     (
         Repeated {
@@ -214,7 +224,7 @@ static CASES: [(Text, Result<(usize, usize), (u8, usize)>); 66] = [
             times: 32,
             back: " ",
         },
-        Err((2, 32)),
+        Err(Malformed { offset: 32 }),
     ),
     (
         Repeated {
@@ -224,7 +234,7 @@ static CASES: [(Text, Result<(usize, usize), (u8, usize)>); 66] = [
             times: 4096,
             back: ")",
         },
-        Err((3, 8191)),
+        Err(OverLimit { offset: 8191 }),
     ),
     (
         Repeated {
@@ -234,7 +244,7 @@ static CASES: [(Text, Result<(usize, usize), (u8, usize)>); 66] = [
             times: 4096,
             back: ")",
         },
-        Err((3, 8191)),
+        Err(OverLimit { offset: 8191 }),
     ),
     (
         Repeated {
@@ -244,7 +254,7 @@ static CASES: [(Text, Result<(usize, usize), (u8, usize)>); 66] = [
             times: 4095,
             back: " )",
         },
-        Err((2, 8191)),
+        Err(Malformed { offset: 8191 }),
     ),
     (
         Repeated {
@@ -254,7 +264,7 @@ static CASES: [(Text, Result<(usize, usize), (u8, usize)>); 66] = [
             times: 4095,
             back: "",
         },
-        Err((2, 8191)),
+        Err(Malformed { offset: 8191 }),
     ),
     (
         Repeated {
@@ -264,7 +274,7 @@ static CASES: [(Text, Result<(usize, usize), (u8, usize)>); 66] = [
             times: 1023,
             back: "",
         },
-        Err((2, 1028)),
+        Err(Malformed { offset: 1028 }),
     ),
     (
         Repeated {
@@ -274,7 +284,7 @@ static CASES: [(Text, Result<(usize, usize), (u8, usize)>); 66] = [
             times: 1025,
             back: "",
         },
-        Err((3, 0)),
+        Err(OverLimit { offset: 0 }),
     ),
     (
         Repeated {
@@ -284,7 +294,7 @@ static CASES: [(Text, Result<(usize, usize), (u8, usize)>); 66] = [
             times: 20000,
             back: "",
         },
-        Err((3, 0)),
+        Err(OverLimit { offset: 0 }),
     ),
     // The longest text, and one that is longer.
     (
@@ -299,7 +309,7 @@ static CASES: [(Text, Result<(usize, usize), (u8, usize)>); 66] = [
             name: "a text of 32,769 octets",
             last: 864,
         },
-        Err((1, 0)),
+        Err(TextLength),
     ),
 ];
 
@@ -308,16 +318,9 @@ pub(crate) fn go_through(rt: &HostRuntime) -> io::Result<Tally> {
     let mut tally = Tally::default();
     for (text, should) in &CASES {
         let octets = text.spelled_out(rt.alloc())?;
-        let gave = Outcome(check(octets.as_bytes()).map_err(Told::from));
-        let should = Outcome(
-            should
-                .map(|(elements, depth)| Extent { elements, depth })
-                .map_err(|(number, offset)| Told {
-                    number,
-                    offset: Some(offset),
-                }),
-        );
-        tally.case(rt, text.name(), gave, should)?;
+        let gave = Outcome(check(octets.as_bytes()));
+        let should = should.map(|(elements, depth)| Extent { elements, depth });
+        tally.case(rt, text.name(), gave, Outcome(should))?;
     }
     Ok(tally)
 }
