@@ -1,2 +1,1 @@
 pub mod Lengths
-pub mod Fronts

@@ -7,7 +7,6 @@ ghost use Rattle.holder.specs.Walks.{first_of, put_at};
 
 use crate::holding::Holder;
 use crate::kinds::Kind;
-use decimal::{digit, digits};
 use sexp::reader::MOST_TEXT;
 use sexp::refusals::Refusal;
 
@@ -20,7 +19,7 @@ fn element_length<H: Holder>(holder: &H, place: u32) -> usize
     match holder.kind_at(place) {
         Kind::Atom => {
             let length = holder.length_at(place);
-            digits(length as u32) + 1 + length
+            decimal::length(length as u32) + 1 + length
         }
         Kind::List => match holder.first_in(place) {
             Some(first) => 2 + run_length(holder, first),
@@ -62,9 +61,9 @@ fn put_number(output: &mut [u8], at: usize, value: u32) -> usize
     ensures end { result ≡ at + length (decimal value) }
     ensures put { output.new ≡ put_at at (decimal value) output.old }
 {
-    let count = digits(value);
+    let count = decimal::length(value);
     for index in 0..count {
-        output[at + index] = digit(value, index);
+        output[at + index] = decimal::octet(value, index);
     }
     at + count
 }

@@ -1,10 +1,11 @@
 -- What stands at each place of a run of readings. Assumes nothing.
-use Rattle.std.proofs.Common.{◌≡◌, ℕ, zero, suc, ◌+◌, ◌-◌, ◌<◌, ◌≤◌, true, false, eqb, List, [], ◌∷◌, length, get_or, drop, ℤ, pos, Some, None, sym, refl, ap, ◌∙◌, subst, ⊎_elim, arith, w32, SFits, to_z, of_z}
+use Rattle.std.proofs.Common.{◌≡◌, ℕ, zero, suc, ◌+◌, ◌-◌, ◌<◌, ◌≤◌, nat_eq, nat_lt, not, eqb, List, [], ◌∷◌, length, get_or, drop, ℤ, pos, Some, None, sym, refl, ap, ◌∙◌, subst, ⊎_elim, arith, w32, SFits, to_z, of_z}
+use Rattle.std.specs.Bool.{then_some}
 use Rattle.std.specs.Fmt.{signed_decimal}
 use Rattle.std.proofs.lemmas.List.{length-drop, get_or-drop}
 use Rattle.std.proofs.lemmas.Int.{to_z-of_z}
-use Rattle.std.proofs.lemmas.Bool.{eq-eqb, ne_eqb, eqb-true, eqb-false, cases_lt, cond-false}
-use Rattle.holder.specs.declared.kinds.Kind.TheVariants.{List as ListKind, Atom as AtomKind}
+use Rattle.std.proofs.lemmas.Bool.{eq-eqb, ne_eqb, cases_lt, cond-false, lt-ltb, le-ltb}
+use Rattle.holder.specs.declared.kinds.Kind.TheVariants.{Atom as AtomKind}
 use Rattle.holder.specs.Placed.{Placed, nothing, atom_at, list_at, run_at, ◌or_else◌, front, inside, behind, octets_of, kind_of, Stands, IsList, IsAtom}
 use Rattle.readings.specs.Tables.{row, table}
 
@@ -37,18 +38,18 @@ pub record Reading (p : ℕ) (zs : List ℤ) : Type 0 where
   pub octets : octets_of (run_at p (table zs)) ≡ signed_decimal (get_or zs (p - 1) (pos 0))
 
 -- what stands at the front of a row
-row_none : (zs : List ℤ) → length zs ≡ 0 → None ≡ front (row 1 zs)
-row_none [] h = refl
-row_none (z ∷ zs) h = absurd (omega arith)
-
-row_first : (zs : List ℤ) → (length zs ≡ 0 → ⊥) → Some 1 ≡ front (row 1 zs)
-row_first [] n = absurd (n refl)
-row_first (z ∷ zs) n = refl
+row_first : (zs : List ℤ) → then_some (not (nat_eq (length zs) 0)) 1 ≡ front (row 1 zs)
+row_first [] = refl
+row_first (z ∷ zs) = rw (ne_eqb (suc (length zs)) 0 (λ e. absurd (omega arith))) refl
 
 module _ (p : ℕ) where
   row_kind : (zs : List ℤ) → Stands (row p zs) → AtomKind ≡ kind_of (row p zs)
   row_kind [] s = absurd s
   row_kind (z ∷ zs) s = refl
+
+  row_stands : (zs : List ℤ) → Stands (row p zs) → 0 < length zs
+  row_stands [] s = absurd s
+  row_stands (z ∷ zs) s = omega arith
 
   row_next : (zs : List ℤ) → 1 < length zs → Some (p + 1) ≡ front (behind (row p zs))
   row_next [] h = absurd (omega arith)
@@ -74,35 +75,31 @@ module _ (p : ℕ) where
 
 -- what the answers are, at a place of a table
 module _ (p : ℕ) (zs : List ℤ) where
-  pub kind_root : p ≡ 0 → ListKind ≡ kind_of (run_at p (table zs))
-  kind_root e = rw e refl
-
   pub kind_reading : 0 < p → Stands (run_at p (table zs)) → AtomKind ≡ kind_of (run_at p (table zs))
   kind_reading h s = rw (table_at p zs h) (row_kind p (drop (p - 1) zs) (subst Stands (table_at p zs h) s))
 
-  pub next_some : 0 < p → p < length zs → Some (p + 1) ≡ front (behind (run_at p (table zs)))
-  next_some h l = rw (table_at p zs h) (row_next p (drop (p - 1) zs) (omega (arith, length-drop (p - 1) zs)))
+  -- the next reading, where the place is not the last one's
+  pub next_reading : 0 < p → then_some (nat_lt p (length zs)) (p + 1) ≡ front (behind (run_at p (table zs)))
+  next_reading h = rw (table_at p zs h) (⊎_elim more last (cases_lt p (length zs)))
+    where
+      more : p < length zs → then_some (nat_lt p (length zs)) (p + 1) ≡ front (behind (row p (drop (p - 1) zs)))
+      more l = rw (lt-ltb p (length zs) l) (row_next p (drop (p - 1) zs) (omega (arith, length-drop (p - 1) zs)))
 
-  pub next_none : 0 < p → length zs ≤ p → None ≡ front (behind (run_at p (table zs)))
-  next_none h l = rw (table_at p zs h) (row_last p (drop (p - 1) zs) (omega (arith, length-drop (p - 1) zs)))
+      last : length zs ≤ p → then_some (nat_lt p (length zs)) (p + 1) ≡ front (behind (row p (drop (p - 1) zs)))
+      last l = rw (le-ltb p (length zs) l) (row_last p (drop (p - 1) zs) (omega (arith, length-drop (p - 1) zs)))
 
-  pub next_root : p ≡ 0 → None ≡ front (behind (run_at p (table zs)))
-  next_root e = rw e refl
+  -- a place behind the root's is that of one of the readings
+  pub reading_stands : 0 < p → Stands (run_at p (table zs)) → p ≤ length zs
+  reading_stands h s = omega (arith, row_stands p (drop (p - 1) zs) (subst Stands (table_at p zs h) s), length-drop (p - 1) zs)
 
   -- a list is the table itself
-  first_in : IsList (run_at p (table zs)) → front (inside (run_at p (table zs))) ≡ front (row 1 zs)
-  first_in s = ⊎_elim (λ (h : 0 < p). absurd (row_no_list p (drop (p - 1) zs) (subst IsList (table_at p zs h) s))) root (cases_lt 0 p)
+  pub first_reading : IsList (run_at p (table zs)) → then_some (not (nat_eq (length zs) 0)) 1 ≡ front (inside (run_at p (table zs)))
+  first_reading s = ⊎_elim (λ (h : 0 < p). absurd (row_no_list p (drop (p - 1) zs) (subst IsList (table_at p zs h) s))) root (cases_lt 0 p)
     where
-      root : p ≤ 0 → front (inside (run_at p (table zs))) ≡ front (row 1 zs)
+      root : p ≤ 0 → then_some (not (nat_eq (length zs) 0)) 1 ≡ front (inside (run_at p (table zs)))
       root h =
           let e : p ≡ 0 = omega arith in
-          rw e refl
-
-  pub first_none : IsList (run_at p (table zs)) → true ≡ eqb (length zs) 0 → None ≡ front (inside (run_at p (table zs)))
-  first_none s h = row_none zs (eqb-true (length zs) 0 (sym h)) ∙ sym (first_in s)
-
-  pub first_some : IsList (run_at p (table zs)) → false ≡ eqb (length zs) 0 → Some 1 ≡ front (inside (run_at p (table zs)))
-  first_some s h = row_first zs (eqb-false (length zs) 0 (sym h)) ∙ sym (first_in s)
+          rw e (row_first zs)
 
   -- an atom is a reading
   pub atom_at_reading : IsAtom (run_at p (table zs)) → Reading p zs
@@ -121,5 +118,5 @@ module _ (p : ℕ) (zs : List ℤ) where
           }
 
   -- its octets, from the reading's bits
-  pub written : IsAtom (run_at p (table zs)) → SFits w32 (get_or zs (p - 1) (pos 0)) → signed_decimal (to_z w32 (of_z w32 (get_or zs (p - 1) (pos 0)))) ≡ octets_of (run_at p (table zs))
-  written s fits = ap signed_decimal (to_z-of_z w32 (get_or zs (p - 1) (pos 0)) fits) ∙ sym (atom_at_reading s).octets
+  pub written : IsAtom (run_at p (table zs)) → SFits w32 (get_or zs (p - 1) (pos 0)) → octets_of (run_at p (table zs)) ≡ signed_decimal (to_z w32 (of_z w32 (get_or zs (p - 1) (pos 0))))
+  written s fits = (atom_at_reading s).octets ∙ ap signed_decimal (sym (to_z-of_z w32 (get_or zs (p - 1) (pos 0)) fits))

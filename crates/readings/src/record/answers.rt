@@ -1,15 +1,29 @@
-// The questions' answers: the list is at the place 0, and each reading at the place one above its index.
+//! The questions' answers: the list is at the place 0, and each reading at the place one above its index.
+ghost use Rattle.std.specs.Prelude.{◌≡◌};
+ghost use Rattle.std.specs.Fmt.{signed_decimal};
+ghost use Rattle.holder.specs.Placed.{run_at, octets_of, IsAtom};
 ghost use Rattle.readings.specs.Readings.{readings as meant};
+ghost use Rattle.readings.specs.Tables.{table};
 
 use super::ReadingsRecord;
-use decimal::{signed_length, signed_octet};
+use decimal::{length, octet};
 use holder::holding::Holder;
 use holder::kinds::Kind;
 
 // The list's place.
 const ROOT: u32 = 0;
 
-impl<'a> Holder for ReadingsRecord<'a> {
+impl ReadingsRecord<'_> {
+    // The reading whose atom stands at a place.
+    fn reading_at(&self, place: u32) -> i32
+        requires { IsAtom (run_at place (table self.now.readings.now)) }
+        ensures { octets_of (run_at place (table self.now.readings.now)) ≡ signed_decimal result }
+    {
+        self.readings[place as usize - 1]
+    }
+}
+
+impl Holder for ReadingsRecord<'_> {
     ghost meaning = { λ s. meant s.readings.now s.ok };
 
     fn root(&self) -> u32 {
@@ -25,29 +39,21 @@ impl<'a> Holder for ReadingsRecord<'a> {
     }
 
     fn first_in(&self, _place: u32) -> Option<u32> {
-        if self.readings.is_empty() {
-            None
-        } else {
-            Some(ROOT + 1)
-        }
+        (!self.readings.is_empty()).then_some(ROOT + 1)
     }
 
     fn next_after(&self, place: u32) -> Option<u32> {
         if place == ROOT {
             return None;
         }
-        if (place as usize) < self.readings.len() {
-            Some(place + 1)
-        } else {
-            None
-        }
+        ((place as usize) < self.readings.len()).then_some(place + 1)
     }
 
     fn length_at(&self, place: u32) -> usize {
-        signed_length(self.readings[place as usize - 1])
+        length(self.reading_at(place))
     }
 
     fn octet_at(&self, place: u32, index: usize) -> u8 {
-        signed_octet(self.readings[place as usize - 1], index)
+        octet(self.reading_at(place), index)
     }
 }

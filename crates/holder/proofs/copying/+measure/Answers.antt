@@ -13,14 +13,14 @@ pub element_length-overflow_add-result : goal.element_length-overflow_add-result
 element_length-overflow_add-result g t c =
     let m = g.H.Holder.meaning c.args.holder.now in
     let a = kind_atom (run_at c.args.place m.tree) c.requires c.in-Atom.ensures in
-    let e = counted_atom m c.args.place c.length_at-length.result c.digits.result a c.length_at-length.ensures c.digits.ensures in
+    let e = counted_atom m c.args.place c.length_at-length.result c.length.result a c.length_at-length.ensures c.length.ensures in
     search (rules, first_most m c.args.place c.requires)
 
 pub element_length-overflow_add-result-in-Atom : goal.element_length-overflow_add-result-in-Atom
 element_length-overflow_add-result-in-Atom g t c =
     let m = g.H.Holder.meaning c.args.holder.now in
     let a = kind_atom (run_at c.args.place m.tree) c.requires c.in-Atom.ensures in
-    let e = counted_atom m c.args.place c.length_at-length.result c.digits.result a c.length_at-length.ensures c.digits.ensures in
+    let e = counted_atom m c.args.place c.length_at-length.result c.length.result a c.length_at-length.ensures c.length.ensures in
     search (rules, first_most m c.args.place c.requires)
 
 pub element_length-run_length-requires : goal.element_length-run_length-requires
@@ -41,7 +41,7 @@ pub element_length-returns-in-Atom : goal.element_length-returns-in-Atom
 element_length-returns-in-Atom g t c =
     let m = g.H.Holder.meaning c.args.holder.now in
     let a = kind_atom (run_at c.args.place m.tree) c.requires c.in-Atom.ensures in
-    counted_atom m c.args.place c.length_at-length.result c.digits.result a c.length_at-length.ensures c.digits.ensures
+    counted_atom m c.args.place c.length_at-length.result c.length.result a c.length_at-length.ensures c.length.ensures
 
 pub element_length-returns-in-Some : goal.element_length-returns-in-Some
 element_length-returns-in-Some g t c =
