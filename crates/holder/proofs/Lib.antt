@@ -1,5 +1,5 @@
 pub mod Walk
-pub mod Laying
-pub mod Measures
-pub mod Sizes
+pub mod Texts
+pub mod Puts
+pub mod Loops
 pub mod Undoing

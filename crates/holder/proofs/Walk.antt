@@ -1,8 +1,9 @@
 -- Every run of a lawful tree is found again at the place of its first element.
-use Rattle.std.proofs.Common.{◌≡◌, ℕ, ◌≤◌, eqb, ◌⊎◌, List, [], ◌∷◌, ◌++◌, Some, sym, refl, ◌∙◌, inl, inr, arith}
+use Rattle.std.proofs.Common.{◌≡◌, ℕ, ◌≤◌, eqb, ◌⊎◌, List, [], ◌∷◌, ◌++◌, length, Some, sym, refl, ◌∙◌, inl, inr, arith}
 use Rattle.std.proofs.lemmas.Bool.{eq-eqb, ne_eqb, cases_Bool}
-use Rattle.sexp.specs.Elements.{Atom, count, depth, ShortAtoms}
-use Rattle.holder.specs.Placed.{Placed, nothing, atom_at, list_at, erase, places, Absent, Apart, ◌or_else◌, run_at, front, inside, behind, Stands, IsList, IsAtom}
+use Rattle.sexp.specs.Elements.{Atom, octets, count, depth, ShortAtoms}
+use Rattle.holder.specs.Placed.{Placed, nothing, atom_at, list_at, erase, places, Absent, Apart, Meaning, ◌or_else◌, run_at, front, inside, behind, octets_of, Stands, IsList, IsAtom}
+use Rattle.holder.specs.Walks.{Limited}
 
 -- p is one of the places
 abbrev pub In : ℕ → List ℕ → Type 0
@@ -165,3 +166,23 @@ part_short r _ whole s = s
 part_short r (atom_at p a es) (after h) s = part_short r es h s.1
 part_short r (list_at p inner es) (within h) s = part_short r inner h s.0
 part_short r (list_at p inner es) (later h) s = part_short r es h s.1
+
+pub first_stands : (m : Meaning) (p q : ℕ) → IsList (run_at p m.tree) → front (inside (run_at p m.tree)) ≡ Some q → Stands (run_at q m.tree)
+first_stands m p q s e = rw (first_found m.tree p q m.lawful.apart s e) (front_stands q (inside (run_at p m.tree)) e)
+
+pub next_stands : (m : Meaning) (p q : ℕ) → Stands (run_at p m.tree) → front (behind (run_at p m.tree)) ≡ Some q → Stands (run_at q m.tree)
+next_stands m p q s e = rw (next_found m.tree p q m.lawful.apart s e) (front_stands q (behind (run_at p m.tree)) e)
+
+pub limited : (m : Meaning) (p : ℕ) → Stands (run_at p m.tree) → Limited (erase (run_at p m.tree))
+limited m p s =
+    let part = part_at p m.tree s in
+    record { few = omega (arith, part_count (run_at p m.tree) m.tree part, m.lawful.within.few); short = part_short (run_at p m.tree) m.tree part m.lawful.within.short }
+
+-- an atom has at most 1,024 octets
+pub atom_short : (m : Meaning) (p : ℕ) → IsAtom (run_at p m.tree) → length (octets_of (run_at p m.tree)) ≤ 1024
+atom_short m p s = small (run_at p m.tree) s (limited m p (atom_stands (run_at p m.tree) s)).short
+  where
+    small : (r : Placed) → IsAtom r → ShortAtoms (erase r) → length (octets_of r) ≤ 1024
+    small nothing s h = absurd s
+    small (atom_at q (octets os) es) s h = h.0
+    small (list_at q inner es) s h = absurd s

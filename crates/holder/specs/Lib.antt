@@ -1,3 +1,5 @@
 pub mod Placed
+pub mod Codes
 pub mod Copies
 pub mod Walks
+pub mod Contents

@@ -1,147 +1,107 @@
-// The text of a record, measured and then laid at the front of an output. The calls nest as deep as the record's lists.
-ghost use Rattle.std.specs.Prelude.{◌≡◌, ◌+◌, ◌<◌, ◌≤◌, [], ◌∷◌, length, decimal};
+//! The text of a record, measured and then laid at the front of an output. The calls nest as deep as the record's lists.
+ghost use Rattle.std.specs.Prelude.{◌≡◌, ◌≤◌, length};
 ghost use Rattle.sexp.specs.Text.{text};
 ghost use Rattle.holder.specs.Copies.{record_of, laying, laid, ReadingAndCopyingUndo};
-ghost use Rattle.holder.specs.Placed.{run_at, erase, octets_of, Stands, IsAtom};
-ghost use Rattle.holder.specs.Walks.{first_of, put_at};
+ghost use Rattle.holder.specs.Walks.{first_of, atom_text, put_front};
 
+use crate::elements::{Content, Element, Octets};
 use crate::holding::Holder;
-use crate::kinds::Kind;
+use itoa::Buffer;
 use sexp::reader::MOST_TEXT;
 use sexp::refusals::Refusal;
 
-// How many octets the text of an element has.
-#[cycle(measure)]
-fn element_length<H: Holder>(holder: &H, place: u32) -> usize
-    requires { Stands (run_at place (H.meaning holder.now).tree) }
-    ensures { result ≡ length (text (first_of (run_at place (H.meaning holder.now).tree))) }
-{
-    match holder.kind_at(place) {
-        Kind::Atom => {
-            let length = holder.length_at(place);
-            decimal::length(length as u32) + 1 + length
-        }
-        Kind::List => match holder.first_in(place) {
-            Some(first) => 2 + run_length(holder, first),
-            None => 2,
-        },
+impl<H: Holder> Octets<'_, H> {
+    // How many octets the atom's text has.
+    fn text_length(&self) -> usize
+        ensures { result ≡ length (atom_text self.now) }
+    {
+        let count = self.len();
+        decimal::length(count) + 1 + count
     }
-}
 
-// How many octets the text of an element and of those behind it in its list has.
-#[cycle(measure)]
-fn run_length<H: Holder>(holder: &H, first: u32) -> usize
-    requires { Stands (run_at first (H.meaning holder.now).tree) }
-    ensures { result ≡ length (text (erase (run_at first (H.meaning holder.now).tree))) }
-{
-    let mut total = 0;
-    let mut place = first;
-    loop {
-        total += element_length(holder, place);
-        match holder.next_after(place) {
-            Some(next) => place = next,
-            None => return total,
+    // Puts the octets at the front of an output.
+    fn put(&self, output: &mut [u8])
+        requires { length self.now ≤ length output.old }
+        ensures { output.new ≡ put_front self.now output.old }
+    {
+        let count = self.len();
+        for (index, octet) in output[..count].iter_mut().enumerate() {
+            *octet = self.at(index);
         }
     }
-}
 
-// Puts an octet into the output, and tells the index behind it.
-fn put(output: &mut [u8], at: usize, octet: u8) -> usize
-    requires { at < length output.old }
-    ensures end { result ≡ at + 1 }
-    ensures put { output.new ≡ put_at at (octet ∷ []) output.old }
-{
-    output[at] = octet;
-    at + 1
-}
-
-// Puts a number in decimal.
-fn put_number(output: &mut [u8], at: usize, value: u32) -> usize
-    requires { at + length (decimal value) ≤ length output.old }
-    ensures end { result ≡ at + length (decimal value) }
-    ensures put { output.new ≡ put_at at (decimal value) output.old }
-{
-    let count = decimal::length(value);
-    for index in 0..count {
-        output[at + index] = decimal::octet(value, index);
+    // Puts the atom's text at the front of an output, and tells its length.
+    fn put_text(&self, output: &mut [u8]) -> usize
+        requires { length (atom_text self.now) ≤ length output.old }
+        ensures end { result ≡ length (atom_text self.now) }
+        ensures put { output.new ≡ put_front (atom_text self.now) output.old }
+    {
+        let count = self.len();
+        let mut buffer = Buffer::new();
+        let number = buffer.format(count).as_bytes();
+        let colon = number.len();
+        output[..colon].copy_from_slice(number);
+        output[colon] = b':';
+        self.put(&mut output[colon + 1..]);
+        colon + 1 + count
     }
-    at + count
 }
 
-// Puts an atom's octets.
-fn put_octets<H: Holder>(holder: &H, place: u32, output: &mut [u8], at: usize) -> usize
-    requires atom { IsAtom (run_at place (H.meaning holder.now).tree) }
-    requires room { at + length (octets_of (run_at place (H.meaning holder.now).tree)) ≤ length output.old }
-    ensures end { result ≡ at + length (octets_of (run_at place (H.meaning holder.now).tree)) }
-    ensures put { output.new ≡ put_at at (octets_of (run_at place (H.meaning holder.now).tree)) output.old }
-{
-    let count = holder.length_at(place);
-    for index in 0..count {
-        output[at + index] = holder.octet_at(place, index);
-    }
-    at + count
-}
-
-// Puts the text of an element.
-#[cycle(put)]
-fn put_element<H: Holder>(holder: &H, place: u32, output: &mut [u8], at: usize) -> usize
-    requires stands { Stands (run_at place (H.meaning holder.now).tree) }
-    requires room { at + length (text (first_of (run_at place (H.meaning holder.now).tree))) ≤ length output.old }
-    ensures end { result ≡ at + length (text (first_of (run_at place (H.meaning holder.now).tree))) }
-    ensures put { output.new ≡ put_at at (text (first_of (run_at place (H.meaning holder.now).tree))) output.old }
-{
-    match holder.kind_at(place) {
-        Kind::Atom => {
-            let length = holder.length_at(place);
-            let colon = put_number(output, at, length as u32);
-            let start = put(output, colon, b':');
-            put_octets(holder, place, output, start)
-        }
-        Kind::List => {
-            let inside = put(output, at, b'(');
-            match holder.first_in(place) {
-                Some(first) => {
-                    let end = put_run(holder, first, output, inside);
-                    put(output, end, b')')
+impl<H: Holder> Element<'_, H> {
+    // How many octets the element's text has.
+    fn text_length(&self) -> usize
+        ensures { result ≡ length (text (first_of self.now)) }
+    {
+        match self.content() {
+            Content::Atom(octets) => octets.text_length(),
+            Content::List(first) => {
+                let mut total = 2;
+                let mut rest = first;
+                while let Some(element) = rest {
+                    total += element.text_length();
+                    rest = element.next();
                 }
-                None => put(output, inside, b')'),
+                total
+            }
+        }
+    }
+
+    // Puts the element's text at the front of an output, and tells its length.
+    fn put_text(&self, output: &mut [u8]) -> usize
+        requires { length (text (first_of self.now)) ≤ length output.old }
+        ensures end { result ≡ length (text (first_of self.now)) }
+        ensures put { output.new ≡ put_front (text (first_of self.now)) output.old }
+    {
+        match self.content() {
+            Content::Atom(octets) => octets.put_text(output),
+            Content::List(first) => {
+                output[0] = b'(';
+                let mut at = 1;
+                let mut rest = first;
+                while let Some(element) = rest {
+                    at += element.put_text(&mut output[at..]);
+                    rest = element.next();
+                }
+                output[at] = b')';
+                at + 1
             }
         }
     }
 }
 
-// Puts the text of an element and of those behind it in its list.
-#[cycle(put)]
-fn put_run<H: Holder>(holder: &H, first: u32, output: &mut [u8], from: usize) -> usize
-    requires stands { Stands (run_at first (H.meaning holder.now).tree) }
-    requires room { from + length (text (erase (run_at first (H.meaning holder.now).tree))) ≤ length output.old }
-    ensures end { result ≡ from + length (text (erase (run_at first (H.meaning holder.now).tree))) }
-    ensures put { output.new ≡ put_at from (text (erase (run_at first (H.meaning holder.now).tree))) output.old }
-{
-    let mut at = from;
-    let mut place = first;
-    loop {
-        at = put_element(holder, place, output, at);
-        match holder.next_after(place) {
-            Some(next) => place = next,
-            None => return at,
-        }
-    }
-}
-
-// Lays the text of a holder's record at the front of an output, and tells its length.
+/// Lays the text of a holder's record at the front of an output, and tells its length.
 pub fn copy_out<H: Holder>(holder: &H, output: &mut [u8]) -> Result<usize, Refusal>
     ensures answer { result ≡ laying (text (record_of (H.meaning holder.now))) output.old }
     ensures left { output.new ≡ laid (text (record_of (H.meaning holder.now))) output.old }
     ensures undo { ReadingAndCopyingUndo (record_of (H.meaning holder.now)) output.old output.new result }
 {
-    let root = holder.root();
-    let length = run_length(holder, root);
+    let root = Element::root(holder);
+    let length = root.text_length();
     if length > MOST_TEXT {
         return Err(Refusal::ResultTooLarge);
     }
     if output.len() < length {
         return Err(Refusal::ShortOutput);
     }
-    Ok(put_run(holder, root, output, 0))
+    Ok(root.put_text(output))
 }

@@ -2,5 +2,6 @@
 #![tactic(auto)]
 
 pub mod copying;
+mod elements;
 pub mod holding;
 pub mod kinds;
