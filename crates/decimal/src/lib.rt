@@ -1,13 +1,14 @@
 //! Numbers written in decimal, octet by octet: no leading zero, and a '-' in front of what is below zero.
 #![tactic(auto)]
 
-ghost use Rattle.std.specs.Prelude.{◌≡◌, length, slice_index};
+ghost use Rattle.std.specs.Prelude.{◌≡◌, ◌≤◌, length, slice_index};
 
 use itoa::{Buffer, Integer};
 
 /// How many octets a number has.
 pub fn length<I: Integer>(value: I) -> usize
-    ensures { result ≡ length (I.text value) }
+    ensures octets { result ≡ length (I.text value) }
+    ensures short { result ≤ 40 }
 {
     let mut buffer = Buffer::new();
     let text = buffer.format(value);

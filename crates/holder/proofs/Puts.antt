@@ -1,6 +1,6 @@
 -- One text put behind another.
-use Rattle.std.proofs.Common.{◌≡◌, ℕ, ◌+◌, ◌-◌, ◌<◌, ◌≤◌, List, [], ◌∷◌, ◌++◌, suc, length, take, drop, set, sym, refl, ◌∙◌, append_assoc, append-nil, arith, length-append, length-drop}
-use Rattle.std.proofs.lemmas.List.{drop-drop, drop_all, take_all, set_split}
+use Rattle.std.proofs.Common.{◌≡◌, ℕ, ◌+◌, ◌-◌, ◌<◌, ◌≤◌, List, [], ◌∷◌, ◌++◌, suc, length, get_or, take, drop, set, sym, refl, ◌∙◌, append_assoc, append-nil, arith, length-append, length-take, length-drop}
+use Rattle.std.proofs.lemmas.List.{drop-drop, drop_all, take_all, take_more, set_split}
 use Rattle.std.proofs.lemmas.Slice.{drop-append-drop}
 use Rattle.std.proofs.Math.Seq.{take-append_seam, drop-append_seam}
 use borrow.Rule.Slice.PartMut.{put_mid, mid_of}
@@ -25,6 +25,13 @@ put_octet s old out x at e h so_far =
     let last : drop (suc at) out ≡ drop (suc at) old = rw (so_far, e) (drop-append-drop (length s) old s (suc (length s)) (omega arith) refl) in
     let n : length (s ++ (x ∷ [])) ≡ suc at = omega (arith, length-append s (x ∷ [])) in
     set_split out at x h ∙ rw (first, last, n) (sym (append_assoc s (x ∷ []) (drop (suc at) old)))
+
+-- one of some octets more, at its index
+pub put_more : (os old out : List ℕ) (i v : ℕ) → i < length os → i < length out → out ≡ take i os ++ drop i old → v ≡ get_or os i 0 → set out i v ≡ take (i + 1) os ++ drop (i + 1) old
+put_more os old out i v h k so_far is =
+    let e : length (take i os) ≡ i = omega (arith, length-take i os) in
+    let n : length (take i os ++ (v ∷ [])) ≡ i + 1 = omega (arith, length-append (take i os) (v ∷ [])) in
+    put_octet (take i os) old out v i (sym e) k (so_far ∙ rw e refl) ∙ rw (n, take_more os i 0 h, is) refl
 
 -- an atom's length, a colon and its octets, put one behind another
 pub put_atom : (d os old copy new : List ℕ) → let out = set (copy ++ drop (length d) old) (length d) 58 in copy ≡ d → length d + 1 + length os ≤ length old → new ≡ put_front os (mid_of (length d + 1) (length out - (length d + 1)) out) → put_mid (length d + 1) (length out - (length d + 1)) out new ≡ put_front (d ++ (58 ∷ os)) old

@@ -1,32 +1,21 @@
 -- The text of a run: that of its first element, and then that of those behind it.
 use Rattle.std.proofs.Common.{◌≡◌, ℕ, ◌*◌, ◌≤◌, List, [], ◌∷◌, ◌++◌, length, refl, ap, append_assoc, append-nil, arith, length-append}
 use Rattle.std.proofs.lemmas.Fmt.{length-decimal-le}
-use Rattle.sexp.specs.Elements.{octets, Elements, none, atom, list, Record, count, ShortAtoms}
+use Rattle.sexp.specs.Elements.{octets, Elements, none, atom, list, count, ShortAtoms}
 use Rattle.sexp.specs.Text.{text_then, text}
 use Rattle.sexp.proofs.Runs.{text_then-append, text_front}
-use Rattle.holder.specs.Placed.{Placed, nothing, atom_at, list_at, erase, inside, behind, octets_of, IsList, IsAtom}
-use Rattle.holder.specs.Walks.{first_of, atom_text, Limited}
+use Rattle.holder.specs.Placed.{Placed, nothing, atom_at, list_at, erase, inside, behind, IsList}
+use Rattle.holder.specs.Walks.{first_of, Limited}
 
 pub text_first : (r : Placed) → text (erase r) ≡ text (first_of r) ++ text (erase (behind r))
 text_first nothing = refl
 text_first (atom_at p (octets os) es) = simp (append_assoc, append-nil)
 text_first (list_at p inner es) = ap (λ (t : List ℕ). 40 ∷ t) (text_then-append (erase inner) (41 ∷ []) (text (erase es)))
 
-pub text_atom : (r : Placed) → IsAtom r → text (first_of r) ≡ atom_text (octets_of r)
-text_atom nothing s = absurd s
-text_atom (atom_at p (octets os) es) s = rw (append-nil os) refl
-text_atom (list_at p inner es) s = absurd s
-
 pub text_list : (r : Placed) → IsList r → text (first_of r) ≡ 40 ∷ (text (erase (inside r)) ++ (41 ∷ []))
 text_list nothing s = absurd s
 text_list (atom_at p a es) s = absurd s
 text_list (list_at p inner es) s = rw (text_front (erase inner) (41 ∷ [])) refl
-
--- a record is its root by itself
-pub root_first : (r : Placed) → Record (erase r) → first_of r ≡ erase r
-root_first nothing h = absurd h
-root_first (atom_at p a es) h = rw h refl
-root_first (list_at p inner es) h = rw h refl
 
 -- an element's text has at most 1,030 octets for itself
 pub length_text_most : (es : Elements) → ShortAtoms es → length (text es) ≤ 1030 * count es

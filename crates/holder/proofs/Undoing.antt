@@ -27,7 +27,7 @@ text_some (atom (octets os) es) h = rw (length-append (decimal (length os)) (58 
 text_some (list inner es) h = omega arith
 
 clash : (k : Refusal) (n : ℕ) → ◌≡◌ {A = Result ℕ Refusal} (Err k) (Ok n) → ⊥
-clash k n e = let z : ◌≡◌ {A = ℕ} 0 1 = cc in omega arith
+clash k n e = cc
 
 -- what the law says of a call that answered and left as defined
 pub undone : (m : Meaning) (out new : List ℕ) (r : Result ℕ Refusal) → r ≡ laying (text (record_of m)) out → new ≡ laid (text (record_of m)) out → ReadingAndCopyingUndo (record_of m) out new r

@@ -1,7 +1,7 @@
 -- Every run of a lawful tree is found again at the place of its first element.
 use Rattle.std.proofs.Common.{◌≡◌, ℕ, ◌≤◌, eqb, ◌⊎◌, List, [], ◌∷◌, ◌++◌, length, Some, sym, refl, ◌∙◌, inl, inr, arith}
 use Rattle.std.proofs.lemmas.Bool.{eq-eqb, ne_eqb, cases_Bool}
-use Rattle.sexp.specs.Elements.{Atom, octets, count, depth, ShortAtoms}
+use Rattle.sexp.specs.Elements.{Atom, octets, count, ShortAtoms}
 use Rattle.holder.specs.Placed.{Placed, nothing, atom_at, list_at, erase, places, Absent, Apart, Meaning, ◌or_else◌, run_at, front, inside, behind, octets_of, Stands, IsList, IsAtom}
 use Rattle.holder.specs.Walks.{Limited}
 
@@ -66,7 +66,7 @@ part_part q r (list_at p inner es) part (later h) = later (part_part q r es part
 
 -- the place of a run's first element is one of the places
 pub part_in : (q : ℕ) (r t : Placed) → Part r t → front r ≡ Some q → In q (places t)
-part_in q (nothing) _ whole e = let z : ◌≡◌ {A = ℕ} 0 1 = cc in absurd (omega arith)
+part_in q (nothing) _ whole e = cc
 part_in q (atom_at p a es) _ whole e = inl (cc)
 part_in q (list_at p inner es) _ whole e = inl (cc)
 part_in q r (atom_at p a es) (after h) e = inr (part_in q r es h e)
@@ -74,7 +74,7 @@ part_in q r (list_at p inner es) (within h) e = inr (in_left q (places inner) (p
 part_in q r (list_at p inner es) (later h) e = inr (in_right q (places inner) (places es) (part_in q r es h e))
 
 pub or_first : (q : ℕ) (r s : Placed) → front r ≡ Some q → r or_else s ≡ r
-or_first q nothing s e = let z : ◌≡◌ {A = ℕ} 0 1 = cc in absurd (omega arith)
+or_first q nothing s e = cc
 or_first q (atom_at p a es) s e = refl
 or_first q (list_at p inner es) s e = refl
 
@@ -109,18 +109,18 @@ part_at p (list_at q inner es) s =
     part_or (list_at r i xs) y s f g = within (f tt)
 
 pub part_inside : (q : ℕ) (r : Placed) → front (inside r) ≡ Some q → Part (inside r) r
-part_inside q nothing e = let z : ◌≡◌ {A = ℕ} 0 1 = cc in absurd (omega arith)
-part_inside q (atom_at p a es) e = let z : ◌≡◌ {A = ℕ} 0 1 = cc in absurd (omega arith)
+part_inside q nothing e = cc
+part_inside q (atom_at p a es) e = cc
 part_inside q (list_at p inner es) e = within whole
 
 pub part_behind : (q : ℕ) (r : Placed) → front (behind r) ≡ Some q → Part (behind r) r
-part_behind q nothing e = let z : ◌≡◌ {A = ℕ} 0 1 = cc in absurd (omega arith)
+part_behind q nothing e = cc
 part_behind q (atom_at p a es) e = after whole
 part_behind q (list_at p inner es) e = later whole
 
 -- a run has a first element exactly when it has a front
 pub front_stands : (q : ℕ) (r : Placed) → front r ≡ Some q → Stands r
-front_stands q nothing e = let z : ◌≡◌ {A = ℕ} 0 1 = cc in absurd (omega arith)
+front_stands q nothing e = cc
 front_stands q (atom_at p a es) e = tt
 front_stands q (list_at p inner es) e = tt
 
@@ -144,22 +144,12 @@ pub next_found : (t : Placed) (p q : ℕ) → Apart (places t) → Stands (run_a
 next_found t p q far s e =
     found q (behind (run_at p t)) t (part_part (behind (run_at p t)) (run_at p t) t (part_behind q (run_at p t) e) (part_at p t s)) far e
 
--- the run at the root's place is the whole tree
-pub root_found : (t : Placed) (q : ℕ) → Apart (places t) → front t ≡ Some q → run_at q t ≡ t
-root_found t q far e = found q t t whole far e
-
 -- a run keeps within the limits of the tree
 pub part_count : (r t : Placed) → Part r t → count (erase r) ≤ count (erase t)
 part_count r _ whole = omega arith
 part_count r (atom_at p a es) (after h) = omega (arith, part_count r es h)
 part_count r (list_at p inner es) (within h) = omega (arith, part_count r inner h)
 part_count r (list_at p inner es) (later h) = omega (arith, part_count r es h)
-
-pub part_depth : (r t : Placed) → Part r t → depth (erase r) ≤ depth (erase t)
-part_depth r _ whole = omega arith
-part_depth r (atom_at p a es) (after h) = omega (arith, part_depth r es h)
-part_depth r (list_at p inner es) (within h) = omega (arith, part_depth r inner h)
-part_depth r (list_at p inner es) (later h) = omega (arith, part_depth r es h)
 
 pub part_short : (r t : Placed) → Part r t → ShortAtoms (erase t) → ShortAtoms (erase r)
 part_short r _ whole s = s

@@ -54,9 +54,8 @@ impl<H: Holder> Element<'_, H> {
     {
         match self.content() {
             Content::Atom(octets) => octets.text_length(),
-            Content::List(first) => {
+            Content::List(mut rest) => {
                 let mut total = 2;
-                let mut rest = first;
                 while let Some(element) = rest {
                     total += element.text_length();
                     rest = element.next();
@@ -74,10 +73,9 @@ impl<H: Holder> Element<'_, H> {
     {
         match self.content() {
             Content::Atom(octets) => octets.put_text(output),
-            Content::List(first) => {
+            Content::List(mut rest) => {
                 output[0] = b'(';
                 let mut at = 1;
-                let mut rest = first;
                 while let Some(element) = rest {
                     at += element.put_text(&mut output[at..]);
                     rest = element.next();

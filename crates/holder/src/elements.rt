@@ -1,15 +1,15 @@
 //! The elements of a holder's record. An element is a place at which one stands, so its methods ask for nothing.
 ghost use Rattle.std.specs.Prelude.{◌≡◌, ◌<◌, ◌≤◌, length, slice_index};
 ghost use Rattle.holder.specs.Contents.{Shows};
-ghost use Rattle.holder.specs.Copies.{record_of};
 ghost use Rattle.holder.specs.Placed.{erase, inside, behind, Stands, IsList};
-ghost use Rattle.holder.specs.Walks.{run_of, first_of, Limited};
+ghost use Rattle.holder.specs.Walks.{run_of, Limited};
 
 use crate::holding::Holder;
 use crate::kinds::Kind;
 use std::marker::Model;
 
 /// An element of a record. Contracts see the run that begins with it: the element, and those behind it in its list.
+#[derive(Drop)]
 pub(crate) struct Element<'h, H: Holder> {
     holder: &'h H,
     place: u32,
@@ -28,22 +28,8 @@ impl<'h, H: Holder> Model for Element<'h, H> {
     ghost invariant = { λ e. Stands (run_at e.place (H.meaning e.holder.now).tree) };
 }
 
-impl<'h, H: Holder> Drop for Element<'h, H> {
-    fn drop(self) {
-        let Element {
-            holder: _,
-            place: _,
-        } = self;
-    }
-}
-
-/// What an element is: a list, with its first element if it has one, or an atom.
-pub(crate) enum Content<'h, H: Holder> {
-    List(Option<Element<'h, H>>),
-    Atom(Octets<'h, H>),
-}
-
 /// The octets of an atom. Contracts see the list of them.
+#[derive(Drop)]
 pub(crate) struct Octets<'h, H: Holder> {
     holder: &'h H,
     place: u32,
@@ -60,20 +46,16 @@ impl<'h, H: Holder> Model for Octets<'h, H> {
     ghost invariant = { λ a. IsAtom (run_at a.place (H.meaning a.holder.now).tree) };
 }
 
-impl<'h, H: Holder> Drop for Octets<'h, H> {
-    fn drop(self) {
-        let Octets {
-            holder: _,
-            place: _,
-        } = self;
-    }
+/// What an element is: a list, with its first element if it has one, or an atom.
+pub(crate) enum Content<'h, H: Holder> {
+    List(Option<Element<'h, H>>),
+    Atom(Octets<'h, H>),
 }
 
 impl<'h, H: Holder> Element<'h, H> {
     /// The root of a holder's record.
     pub(crate) fn root(holder: &'h H) -> Element<'h, H>
-        ensures run { result ≡ (H.meaning holder.now).tree }
-        ensures whole { first_of result ≡ record_of (H.meaning holder.now) }
+        ensures { result ≡ (H.meaning holder.now).tree }
     {
         Element {
             holder,
@@ -81,18 +63,8 @@ impl<'h, H: Holder> Element<'h, H> {
         }
     }
 
-    /// The next element of the same list.
-    pub(crate) fn next(&self) -> Option<Element<'h, H>>
-        ensures stands { Stands self.now }
-        ensures behind { run_of result ≡ behind self.now }
-    {
-        let place = self.holder.next_after(self.place)?;
-        Some(Element {
-            holder: self.holder,
-            place,
-        })
-    }
-
+    /// What the element is.
+    #[tactic(auto, using(crate::proofs::Walk::limited))]
     pub(crate) fn content(&self) -> Content<'h, H>
         ensures shows { Shows result self.now }
         ensures within { Limited (erase self.now) }
@@ -107,6 +79,7 @@ impl<'h, H: Holder> Element<'h, H> {
     }
 
     // The first element of a list.
+    #[tactic(auto, using(crate::proofs::Walk::first_found, crate::proofs::Walk::first_stands))]
     fn first(&self) -> Option<Element<'h, H>>
         requires { IsList self.now }
         ensures { run_of result ≡ inside self.now }
@@ -117,10 +90,24 @@ impl<'h, H: Holder> Element<'h, H> {
             place,
         })
     }
+
+    /// The next element of the same list.
+    #[tactic(auto, using(crate::proofs::Walk::next_found, crate::proofs::Walk::next_stands))]
+    pub(crate) fn next(&self) -> Option<Element<'h, H>>
+        ensures stands { Stands self.now }
+        ensures behind { run_of result ≡ behind self.now }
+    {
+        let place = self.holder.next_after(self.place)?;
+        Some(Element {
+            holder: self.holder,
+            place,
+        })
+    }
 }
 
 impl<'h, H: Holder> Octets<'h, H> {
     /// How many there are.
+    #[tactic(auto, using(crate::proofs::Walk::atom_short))]
     pub(crate) fn len(&self) -> usize
         ensures len { result ≡ length self.now }
         ensures short { length self.now ≤ 1024 }

@@ -1,5 +1,6 @@
-// The two kinds of elements.
+//! The kinds of elements.
 
+/// What an element is.
 #[derive(Clone, Copy, PartialEq, Eq, Debug)]
 pub enum Kind {
     List,

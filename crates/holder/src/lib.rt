@@ -1,4 +1,4 @@
-// The questions put to whatever holds a record, and what is done over them.
+//! The questions put to whatever holds a record, and what is done over them.
 #![tactic(auto)]
 
 pub mod copying;

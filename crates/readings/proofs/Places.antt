@@ -33,7 +33,6 @@ table_at p zs h =
 
 -- an atom stands at the place of a reading
 pub record Reading (p : ℕ) (zs : List ℤ) : Type 0 where
-  pub behind_root : 0 < p
   pub inside : p - 1 < length zs
   pub octets : octets_of (run_at p (table zs)) ≡ signed_decimal (get_or zs (p - 1) (pos 0))
 
@@ -112,7 +111,6 @@ module _ (p : ℕ) (zs : List ℤ) where
       reading h =
           let some = row_some p (drop (p - 1) zs) (subst IsAtom (table_at p zs h) s) in
           record {
-            behind_root = h;
             inside = omega (arith, length-drop (p - 1) zs);
             octets = ap octets_of (table_at p zs h) ∙ (row_octets p (drop (p - 1) zs) some ∙ ap signed_decimal (get_or-drop (p - 1) zs 0 (pos 0) ∙ ap (λ k. get_or zs k (pos 0)) (omega arith)));
           }

@@ -1,4 +1,4 @@
-// A run of readings, held as a record.
+//! A run of readings, held as a record.
 #![tactic(auto)]
 
 pub mod record;

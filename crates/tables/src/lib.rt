@@ -1,4 +1,4 @@
-// Nodes.
+//! Nodes.
 #![tactic(auto)]
 
 pub mod nodes;

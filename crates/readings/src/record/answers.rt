@@ -15,6 +15,7 @@ const ROOT: u32 = 0;
 
 impl ReadingsRecord<'_> {
     // The reading whose atom stands at a place.
+    #[tactic(auto, using(crate::proofs::Places::written, crate::proofs::Places::atom_at_reading))]
     fn reading_at(&self, place: u32) -> i32
         requires { IsAtom (run_at place (table self.now.readings.now)) }
         ensures { octets_of (run_at place (table self.now.readings.now)) ≡ signed_decimal result }
@@ -30,6 +31,7 @@ impl Holder for ReadingsRecord<'_> {
         ROOT
     }
 
+    #[tactic(auto, using(crate::proofs::Places::kind_reading))]
     fn kind_at(&self, place: u32) -> Kind {
         if place == ROOT {
             Kind::List
@@ -38,10 +40,12 @@ impl Holder for ReadingsRecord<'_> {
         }
     }
 
+    #[tactic(auto, using(crate::proofs::Places::first_reading))]
     fn first_in(&self, _place: u32) -> Option<u32> {
         (!self.readings.is_empty()).then_some(ROOT + 1)
     }
 
+    #[tactic(auto, using(crate::proofs::Places::next_reading, crate::proofs::Places::reading_stands))]
     fn next_after(&self, place: u32) -> Option<u32> {
         if place == ROOT {
             return None;

@@ -1,4 +1,4 @@
-// What the record holds.
+//! What the record holds.
 ghost use Rattle.std.specs.Prelude.{◌≡◌, []};
 ghost use Rattle.readings.specs.Readings.{Fills};
 
@@ -6,14 +6,14 @@ use super::{MOST_READINGS, ReadingsRecord};
 use sexp::refusals::Refusal;
 
 impl<'a> ReadingsRecord<'a> {
-    // A record of no reading.
+    /// A record of no reading.
     pub fn new() -> ReadingsRecord<'a>
         ensures { result.readings.now ≡ [] }
     {
         ReadingsRecord { readings: &[] }
     }
 
-    // Takes readings in place of those held. Too many are refused, and the record stays as it was.
+    /// Takes readings in place of those held. Too many are refused, and the record stays as it was.
     pub fn fill(&mut self, readings: &'a [i32]) -> Result<(), Refusal>
         ensures { Fills readings.now self.old.readings.now self.new.readings.now result }
     {

@@ -4,22 +4,23 @@ use Rattle.holder.proofs.Loops.{putting_none, putting_more, putting_all, room_fi
 use Rattle.holder.proofs.elements.Element.+put_text.Goals as goal
 
 pub loop-rest-init : goal.loop-rest-init
-loop-rest-init g t c = putting_none c.args.self.now (run_of c.in-List.first) c.args.output.now c.in-List.ensures.shows.0 c.in-List.ensures.shows.1 c.requires
+loop-rest-init g t c = putting_none _ _ _ c.in-List.ensures.shows.0 c.in-List.ensures.shows.1 c.requires
 
 pub put_text-at-requires : goal.put_text-at-requires
 put_text-at-requires g t c κs within =
-    let same : length c.loop-rest.output ≡ length c.args.output.now = c.loop-rest.auto.output ∙ length-set c.args.output.now 0 40 in
-    let room = room_first c.args.self.now (run_of c.loop-rest.rest) c.in-Some.element c.loop-rest.at c.args.output.now c.loop-rest.output c.loop-rest.invariant (ap run_of c.in-Some.is) (rw same c.requires) in
-    let part : length (take (length c.loop-rest.output - c.loop-rest.at) (drop c.loop-rest.at c.loop-rest.output)) ≡ length c.loop-rest.output - c.loop-rest.at = simp (length-take, length-drop) (omega arith) in
-    let some = c.loop-rest.invariant.some in
-    let less : length (take (length c.loop-rest.output - c.loop-rest.at) (drop c.loop-rest.at c.loop-rest.output)) < length c.args.output.now = omega arith in
+    let out = c.loop-rest.output in
+    let at = c.loop-rest.at in
+    let same : length out ≡ length c.args.output.now = c.loop-rest.auto.output ∙ length-set c.args.output.now 0 40 in
+    let room = room_first _ _ _ _ _ _ c.loop-rest.invariant (ap run_of c.in-Some.is) (rw same c.requires) in
+    let part : length (take (length out - at) (drop at out)) ≡ length out - at = simp (length-take, length-drop) (omega arith) in
+    let less : length (take (length out - at) (drop at out)) < length c.args.output.now = omega (arith, c.loop-rest.invariant.some) in
     (search (rules, less), (within, omega arith))
 
 pub loop-rest-preserved : goal.loop-rest-preserved
 loop-rest-preserved g t c =
-    putting_more c.args.self.now (run_of c.loop-rest.rest) c.in-Some.element (run_of c.next-rest.result) c.loop-rest.at c.put_text-at.result c.args.output.now c.loop-rest.output c.put_text-at.new.output c.loop-rest.invariant (ap run_of c.in-Some.is) c.put_text-at.ensures.end c.put_text-at.ensures.put c.next-rest.ensures.behind
+    putting_more _ _ _ _ _ _ _ _ _ c.loop-rest.invariant (ap run_of c.in-Some.is) c.put_text-at.ensures.end c.put_text-at.ensures.put c.next-rest.ensures.behind
 
 pub returns-in_default-clause-put : goal.returns-in_default-clause-put
 returns-in_default-clause-put g t c =
     let same : length c.loop-rest.output ≡ length c.args.output.now = c.loop-rest.auto.output ∙ length-set c.args.output.now 0 40 in
-    putting_all c.args.self.now (run_of c.loop-rest.rest) c.loop-rest.at c.args.output.now c.loop-rest.output c.loop-rest.invariant (ap run_of c.in_default.is) (rw same c.requires)
+    putting_all _ _ _ _ _ c.loop-rest.invariant (ap run_of c.in_default.is) (rw same c.requires)
