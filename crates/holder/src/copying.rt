@@ -1,4 +1,5 @@
 //! The text of a record, measured and then laid at the front of an output. The calls nest as deep as the record's lists.
+// Measuring and putting walk alike. One walk into a trait of sinks would be no plainer: two short bodies, and laws for the trait.
 ghost use Rattle.std.specs.Prelude.{◌≡◌, ◌≤◌, length};
 ghost use Rattle.sexp.specs.Text.{text};
 ghost use Rattle.holder.specs.Copies.{record_of, laying, laid, ReadingAndCopyingUndo};

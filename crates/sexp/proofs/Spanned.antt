@@ -6,13 +6,23 @@ use Rattle.sexp.specs.declared.reader.Progress.{Progress}
 use Rattle.sexp.specs.declared.refusals.Refusal.{Refusal}
 use Rattle.sexp.specs.declared.refusals.Refusal.TheVariants.{Malformed}
 use Rattle.sexp.specs.declared.tokens.Cursor.{Cursor}
-use Rattle.sexp.specs.Elements.{octets, Elements, none, atom, list, ◌then◌, Record}
+use Rattle.sexp.specs.Elements.{octets, Elements, none, atom, list, ◌then◌, Record, count, depth}
 use Rattle.sexp.specs.Reading.{Lexeme, opening, closing, string, fault, refused, onward, opened, closed, reading}
 use Rattle.sexp.specs.Tokens.{lexeme_at}
-use Rattle.sexp.specs.Checks.{reading_from, Spans, Closes, Lists}
+use Rattle.sexp.specs.Checks.{reading_from, Spans, Closes}
 use Rattle.sexp.proofs.Runs.{count-then, depth-then, onward-none, onward_then, opened_closed}
 use Rattle.sexp.proofs.Steps.{says, step_opening, step_closing, step_string, string_fits}
 use Rattle.sexp.proofs.Branches.{past_end}
+
+-- from `from` on the innermost list holds es, and closes
+pub record Lists (from to : Progress) (es : Elements) : Type 0 where
+  pub same : to.cursor.text ≡ from.cursor.text
+  pub goes_on : reading_from from.cursor ≡ onward es (closed (reading_from to.cursor))
+  pub level : to.cursor.depth ≡ from.cursor.depth - 1
+  pub counted : to.cursor.count ≡ from.cursor.count + count es
+  pub measured : to.deepest ≡ max from.deepest (from.cursor.depth + depth es)
+  pub forward : from.cursor.at < to.cursor.at
+  pub inside : to.cursor.at ≤ length from.cursor.text.now
 
 -- a token that is no fault stands inside the text
 module _ (from : Cursor) where

@@ -49,17 +49,3 @@ FindsThat from (Close to) = Closes from to
 abbrev pub Finds : Progress → Result Found Refusal → Type 0
 Finds from (Ok f) = FindsThat from f
 Finds from (Err k) = reading_from from.cursor ≡ refused k
-
--- from `from` on the innermost list holds es, and closes; or the reading is refused
-pub record Lists (from to : Progress) (es : Elements) : Type 0 where
-  pub same : to.cursor.text ≡ from.cursor.text
-  pub goes_on : reading_from from.cursor ≡ onward es (closed (reading_from to.cursor))
-  pub level : to.cursor.depth ≡ from.cursor.depth - 1
-  pub counted : to.cursor.count ≡ from.cursor.count + count es
-  pub measured : to.deepest ≡ max from.deepest (from.cursor.depth + depth es)
-  pub forward : from.cursor.at < to.cursor.at
-  pub inside : to.cursor.at ≤ length from.cursor.text.now
-
-abbrev pub FindsList : Progress → Result Progress Refusal → Type 0
-FindsList from (Ok to) = (es : Elements) × Lists from to es
-FindsList from (Err k) = reading_from from.cursor ≡ refused k

@@ -1,6 +1,6 @@
 //! The reader: one pass over a text, with a stack as deep as the text's lists.
-ghost use Rattle.std.specs.Prelude.{◌≡◌, ◌<◌, ◌≤◌, false};
-ghost use Rattle.sexp.specs.Checks.{Finds, FindsList};
+ghost use Rattle.std.specs.Prelude.{◌≡◌, ◌≤◌, false};
+ghost use Rattle.sexp.specs.Checks.{Finds};
 ghost use Rattle.sexp.specs.Laws.{answer, AcceptedExactlyCanonical, RefusedAsListed, DerivesItsText, OneRecord, SameIsEqual};
 ghost use Rattle.sexp.specs.Reading.{complete, missized, verdict};
 
@@ -43,41 +43,31 @@ enum Found<'a> {
     Close(Progress<'a>),
 }
 
-// The element at a cursor, or the end of the list that is open there.
-#[cycle(check)]
-fn check_element(from: Progress<'_>) -> Result<Found<'_>, Refusal>
-    requires due { complete from.cursor.depth from.cursor.count ≡ false }
-    requires measured { from.cursor.depth ≤ from.deepest }
-    ensures { Finds from.entry result }
-{
-    let step = from.cursor.next()?;
-    let cursor = step.next;
-    match step.token {
-        Token::Closing { .. } => Ok(Found::Close(Progress { cursor, ..from })),
-        Token::Atom { .. } => {
-            let deepest = from.deepest.max(cursor.depth + 1);
-            Ok(Found::Element(Progress { cursor, deepest }))
-        }
-        Token::Opening { .. } => {
-            let deepest = from.deepest.max(cursor.depth);
-            let behind = check_list(Progress { cursor, deepest })?;
-            Ok(Found::Element(behind))
-        }
-    }
-}
-
-// The elements of the innermost open list, from a cursor to behind its closing.
-#[cycle(check)]
-fn check_list(from: Progress<'_>) -> Result<Progress<'_>, Refusal>
-    requires inside { 0 < from.cursor.depth }
-    requires measured { from.cursor.depth ≤ from.deepest }
-    ensures { FindsList from.entry result }
-{
-    let mut at = from;
-    loop {
-        match check_element(at)? {
-            Found::Element(behind) => at = behind,
-            Found::Close(behind) => return Ok(behind),
+impl<'a> Progress<'a> {
+    // The element here, or the end of the list that is open here. The elements of a list are passed by a loop.
+    fn element(self) -> Result<Found<'a>, Refusal>
+        requires due { complete self.cursor.depth self.cursor.count ≡ false }
+        requires measured { self.cursor.depth ≤ self.deepest }
+        ensures { Finds self.entry result }
+    {
+        let step = self.cursor.next()?;
+        let cursor = step.next;
+        match step.token {
+            Token::Closing { .. } => Ok(Found::Close(Progress { cursor, ..self })),
+            Token::Atom { .. } => {
+                let deepest = self.deepest.max(cursor.depth + 1);
+                Ok(Found::Element(Progress { cursor, deepest }))
+            }
+            Token::Opening { .. } => {
+                let deepest = self.deepest.max(cursor.depth);
+                let mut at = Progress { cursor, deepest };
+                loop {
+                    match at.element()? {
+                        Found::Element(behind) => at = behind,
+                        Found::Close(behind) => return Ok(Found::Element(behind)),
+                    }
+                }
+            }
         }
     }
 }
@@ -110,7 +100,7 @@ pub fn check(text: &[u8]) -> Result<Extent, Refusal>
         },
         deepest: 0,
     };
-    match check_element(start)? {
+    match start.element()? {
         Found::Element(Progress { cursor, deepest }) => {
             if cursor.at < text.len() {
                 return Err(Refusal::Malformed { offset: cursor.at });

@@ -20,11 +20,12 @@ impl ReadingsRecord<'_> {
         requires { IsAtom (run_at place (table self.now.readings.now)) }
         ensures { octets_of (run_at place (table self.now.readings.now)) ≡ signed_decimal result }
     {
+        // Casts, here and below: there is no `From` from a `u32` to a `usize`.
         self.readings[place as usize - 1]
     }
 }
 
-impl Holder for ReadingsRecord<'_> {
+impl<'a> Holder for ReadingsRecord<'a> {
     ghost meaning = { λ s. meant s.readings.now s.ok };
 
     fn root(&self) -> u32 {
