@@ -4,8 +4,8 @@ ghost use Rattle.holder.specs.Placed.{Meaning, run_at, front, inside, behind, oc
 
 use crate::kinds::Kind;
 
-/// A record behind questions. A place is a number that stands for one of its elements; each answer is what the record says,
-/// however often the question is put. The questions are asked only about places that the same holder gave.
+/// A record behind questions. A place is a number that stands for one of its elements; each answer is what the record
+/// says, however often the question is put. The questions are asked only about places that the same holder gave.
 // Each question is put by a bare place, and so has a premise: places are numbers that others keep and hand back.
 pub trait Holder {
     ghost meaning: { Self → Meaning };

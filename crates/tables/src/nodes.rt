@@ -1,7 +1,7 @@
 //! The nodes of a table.
 
-/// An element of a table: its kind (0 list, 1 atom), how many nodes it spans with all that it holds, and, of an atom, where
-/// its octets lie and how many there are.
+/// An element of a table: its kind (0 list, 1 atom), how many nodes it spans with all that it holds, and, of an atom,
+/// where its octets lie and how many there are.
 #[derive(Clone, Copy, PartialEq, Eq, Debug)]
 pub struct Node {
     // A number and no enum: a run of nodes is memory that the caller lends, in a fixed format.
