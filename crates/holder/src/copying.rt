@@ -1,6 +1,7 @@
 //! The text of a record, measured and then laid at the front of an output.
 //! The calls nest as deep as the record's lists, and the elements of one list are passed by a loop.
-// Measuring and putting walk alike. One walk into a trait of sinks is no plainer: two short bodies, and laws of its own.
+// Measuring and putting walk alike: one walk into a trait of sinks would need laws of its own for two short bodies.
+// Each passes the elements of a list by a `while let`: an iterator over them would need laws too.
 ghost use Rattle.std.specs.Prelude.{◌≡◌, ◌≤◌, length};
 ghost use Rattle.sexp.specs.Text.{text};
 ghost use Rattle.holder.specs.Copies.{record_of, laying, laid, ReadingAndCopyingUndo};

@@ -29,6 +29,7 @@ impl<'h, H: Holder> Model for Element<'h, H> {
 }
 
 /// The octets of an atom. Contracts see the list of them.
+// The fields of `Element`, of which contracts see something else.
 #[derive(Drop)]
 pub(crate) struct Octets<'h, H: Holder> {
     holder: &'h H,
@@ -92,6 +93,7 @@ impl<'h, H: Holder> Element<'h, H> {
     }
 
     /// The next element of the same list.
+    // Here and in `first` no `map`: the invariant of what a closure makes is not proved.
     #[tactic(auto, using(crate::proofs::Walk::next_found, crate::proofs::Walk::next_stands))]
     pub(crate) fn next(&self) -> Option<Element<'h, H>>
         ensures stands { Stands self.now }

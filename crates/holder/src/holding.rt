@@ -6,7 +6,7 @@ use crate::kinds::Kind;
 
 /// A record behind questions. A place is a number that stands for one of its elements; each answer is what the record
 /// says, however often the question is put. The questions are asked only about places that the same holder gave.
-// Each question is put by a bare place, and so has a premise: places are numbers that others keep and hand back.
+// Each question is put by a bare place, and so has a premise: others keep places as numbers, and hand them back.
 pub trait Holder {
     ghost meaning: { Self → Meaning };
 

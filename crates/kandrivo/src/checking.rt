@@ -3,6 +3,7 @@ ghost use Rattle.std.specs.Prelude.{◌≡◌, IfOk, string_bytes};
 ghost use Rattle.kandrivo.specs.Lines.{check_line};
 
 use crate::files::read_text;
+use sexp::outcomes::Outcome;
 use sexp::reader::{Extent, check};
 use sexp::refusals::Refusal;
 use std::alloc::{AllocError, Global};
@@ -16,10 +17,8 @@ fn check_line(
 ) -> Result<String, AllocError>
     ensures { IfOk result (λ s. string_bytes s ≡ check_line path.now answer) }
 {
-    match answer {
-        Ok(extent) => format!(in heap; "{path}: accepted, {extent}"),
-        Err(refusal) => format!(in heap; "{path}: {refusal}"),
-    }
+    let outcome = Outcome(answer);
+    format!(in heap; "{path}: {outcome}")
 }
 
 /// Prints what the check of a file's text answers, and says whether the text was accepted.

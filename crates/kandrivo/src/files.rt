@@ -8,7 +8,7 @@ use std::io::Read;
 pub(crate) fn read_text(rt: &HostRuntime, path: &str) -> io::Result<Vec<u8>> {
     let mut octets = Vec::new(rt.alloc());
     let file = File::open(rt, path)?;
-    // A cast: there is no `From` from a `usize`.
+    // A cast that is proved to lose nothing: `TryFrom` would add an error that never comes.
     file.take(MOST_TEXT as u64 + 1).read_to_end(&mut octets)?;
     Ok(octets)
 }

@@ -22,8 +22,8 @@ fn check_files(rt: &HostRuntime, paths: Args) -> io::Result<ExitCode> {
     Ok(status)
 }
 
-// A refusal, an unreadable file and a wrong call are told where they are met, so the status alone tells of them; an `Err` is
-// told as the program ends.
+// A refusal, an unreadable file and a wrong call are told where they are met, so the status alone tells of them;
+// an `Err` is told as the program ends.
 fn main(rt: HostRuntime) -> io::Result<ExitCode> {
     let mut args = env::args(&rt)?;
     let _program = args.next();

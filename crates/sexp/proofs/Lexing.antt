@@ -14,12 +14,6 @@ pub first_same : {x y : ℕ} {xs ys : List ℕ} → x ∷ xs ≡ y ∷ ys → x 
 first_same p = cc
 
 -- what each test tells
-pub digit_true : (o : ℕ) → is_digit o ≡ true → Digit o
-digit_true o e = grind (arith, nat_tests)
-
-pub digit_false : (o : ℕ) → is_digit o ≡ false → Digit o → ⊥
-digit_false o e h = grind (arith, nat_tests)
-
 pub digit_is : (o : ℕ) → Digit o → is_digit o ≡ true
 digit_is o h = grind (arith, nat_tests)
 

@@ -1,6 +1,6 @@
 -- Laws of runs: `then` with count, depth, short atoms, text and reading. Assumes nothing.
 use Rattle.std.proofs.Common.{◌≡◌, ℕ, ◌+◌, max, List, [], ◌∷◌, ◌++◌, sym, refl, ap, ◌∙◌, append_assoc, arith}
-use Rattle.sexp.specs.Elements.{octets, Elements, none, atom, list, ◌then◌, count, depth, ShortAtoms}
+use Rattle.sexp.specs.Elements.{octets, Elements, none, atom, list, ◌then◌, count, depth}
 use Rattle.sexp.specs.Text.{atom_then, text_then, text}
 use Rattle.sexp.specs.Reading.{Reading, refused, read, before, onward, opened, closed}
 
@@ -23,16 +23,6 @@ pub depth-then : (es fs : Elements) → depth (es then fs) ≡ max (depth es) (d
 depth-then none fs = omega arith
 depth-then (atom a es) fs = omega (arith, depth-then es fs)
 depth-then (list inner es) fs = omega (arith, depth-then es fs)
-
-pub short_then : (es fs : Elements) → ShortAtoms es → ShortAtoms fs → ShortAtoms (es then fs)
-short_then none fs h k = k
-short_then (atom a es) fs h k = (h.0, short_then es fs h.1 k)
-short_then (list inner es) fs h k = (h.0, short_then es fs h.1 k)
-
-pub short_parts : (es fs : Elements) → ShortAtoms (es then fs) → ShortAtoms es × ShortAtoms fs
-short_parts none fs h = (tt, h)
-short_parts (atom a es) fs h = let p = short_parts es fs h.1 in ((h.0, p.0), p.1)
-short_parts (list inner es) fs h = let p = short_parts es fs h.1 in ((h.0, p.0), p.1)
 
 pub text_then-then : (es fs : Elements) (r : List ℕ) → text_then (es then fs) r ≡ text_then es (text_then fs r)
 text_then-then none fs r = refl

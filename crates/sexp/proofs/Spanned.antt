@@ -7,11 +7,11 @@ use Rattle.sexp.specs.declared.refusals.Refusal.{Refusal}
 use Rattle.sexp.specs.declared.refusals.Refusal.TheVariants.{Malformed}
 use Rattle.sexp.specs.declared.tokens.Cursor.{Cursor}
 use Rattle.sexp.specs.Elements.{octets, Elements, none, atom, list, ◌then◌, Record, count, depth}
-use Rattle.sexp.specs.Reading.{Lexeme, opening, closing, string, fault, refused, onward, opened, closed, reading}
+use Rattle.sexp.specs.Reading.{Lexeme, opening, string, fault, onward, opened, closed, reading}
 use Rattle.sexp.specs.Tokens.{lexeme_at}
 use Rattle.sexp.specs.Checks.{reading_from, Spans, Closes}
 use Rattle.sexp.proofs.Runs.{count-then, depth-then, onward-none, onward_then, opened_closed}
-use Rattle.sexp.proofs.Steps.{says, step_opening, step_closing, step_string, string_fits}
+use Rattle.sexp.proofs.Steps.{step_opening, step_string, string_fits}
 use Rattle.sexp.proofs.Branches.{past_end}
 
 -- from `from` on the innermost list holds es, and closes
@@ -38,15 +38,6 @@ module _ (from : Cursor) where
     inside opening e (λ k p. let z : ◌≡◌ {A = ℕ} 0 1 = cc in omega arith),
   )
 
-  ends_list : lexeme_at from ≡ closing → (reading_from from ≡ closed (reading_from (record { text = from.text; at = from.at + 1; depth = from.depth - 1; count = from.count }))) × (from.at < length from.text.now)
-  ends_list e = (
-    step_closing (length from.text.now) from.depth from.count from.at (drop from.at from.text.now) e ∙ ap (λ r. closed (reading (length from.text.now) 0 (from.depth - 1) from.count (from.at + 1) r)) (moved 1),
-    inside closing e (λ k p. let z : ◌≡◌ {A = ℕ} 0 1 = cc in omega arith),
-  )
-
-  was_open : lexeme_at from ≡ closing → 0 < from.depth
-  was_open e = (says (length from.text.now) from.depth from.count from.at (drop from.at from.text.now) closing e).2
-
   passes : (os : List ℕ) (more : ℕ) → lexeme_at from ≡ string os more → (reading_from from ≡ onward (atom (octets os) none) (reading_from (record { text = from.text; at = from.at + (more + 1); depth = from.depth; count = from.count + 1 }))) × (from.at + (more + 1) ≤ length from.text.now)
   passes os more e = (
     step_string (length from.text.now) from.depth from.count from.at (drop from.at from.text.now) os more e ∙ ap (λ r. onward (atom (octets os) none) (reading (length from.text.now) 0 from.depth (from.count + 1) (from.at + (more + 1)) r)) (moved (more + 1)),
@@ -55,21 +46,6 @@ module _ (from : Cursor) where
 
 -- a token, as the reader counts and measures it
 module _ (from : Progress) where
-  pub found_close : (next : Cursor) → lexeme_at from.cursor ≡ closing → next ≡ record { text = from.cursor.text; at = from.cursor.at + 1; depth = from.cursor.depth - 1; count = from.cursor.count } → Closes from (record { cursor = next; deepest = from.deepest })
-  found_close next e n =
-      let on = ends_list from.cursor e in
-      let l = on.1 in
-      record {
-        same = ap (λ (c : Cursor). c.text) n;
-        goes_on = on.0 ∙ sym (ap (λ c. closed (reading_from c)) n);
-        some = was_open from.cursor e;
-        level = ap (λ (c : Cursor). c.depth) n;
-        counted = ap (λ (c : Cursor). c.count) n;
-        measured = refl;
-        forward = let at = ap (λ (c : Cursor). c.at) n in omega arith;
-        inside = let at = ap (λ (c : Cursor). c.at) n in omega arith;
-      }
-
   pub found_atom : (next : Cursor) (deepest : ℕ) (os : List ℕ) (more : ℕ) → lexeme_at from.cursor ≡ string os more → next ≡ record { text = from.cursor.text; at = from.cursor.at + (more + 1); depth = from.cursor.depth; count = from.cursor.count + 1 } → deepest ≡ max from.deepest (next.depth + 1) → ((e : Elements) × Record e × Spans from (record { cursor = next; deepest = deepest }) e) × (from.cursor.at < next.at) × (next.at ≤ length from.cursor.text.now)
   found_atom next deepest os more e n d =
       let on = passes from.cursor os more e in
@@ -144,6 +120,3 @@ spans_close a b c es h k =
       forward = omega (arith, h.forward, k.forward);
       inside = omega (arith, k.inside, ap (λ x. length x.now) h.same);
     }
-
-pub spans_refused : (a b : Progress) (es : Elements) (k : Refusal) → Spans a b es → reading_from b.cursor ≡ refused k → reading_from a.cursor ≡ refused k
-spans_refused a b es k h e = h.goes_on ∙ ap (onward es) e

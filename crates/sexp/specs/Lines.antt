@@ -1,5 +1,5 @@
--- How a record's extent and a refusal print. Assumes nothing.
-use Rattle.std.specs.Prelude.{ℕ, List, ◌++◌, Some, None, codes, decimal, Option}
+-- How a record's extent, a refusal and what the check of a text answers print. Assumes nothing.
+use Rattle.std.specs.Prelude.{ℕ, List, ◌++◌, Some, None, Ok, Err, codes, decimal, Option, Result}
 use Rattle.sexp.specs.declared.reader.Extent.{Extent}
 use Rattle.sexp.specs.declared.refusals.Refusal.{Refusal}
 use Rattle.sexp.specs.Refusals.{number_of, offset_of}
@@ -14,3 +14,7 @@ placed n None = codes "refused " ++ decimal n
 
 abbrev pub refusal_line : Refusal → List ℕ
 refusal_line k = placed (number_of k) (offset_of k)
+
+abbrev pub outcome_line : Result Extent Refusal → List ℕ
+outcome_line (Ok x) = codes "accepted, " ++ extent_line x
+outcome_line (Err k) = refusal_line k

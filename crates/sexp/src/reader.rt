@@ -1,4 +1,4 @@
-//! The reader: one pass over a text, with a stack as deep as the text's lists.
+//! The reader: over a text from left to right, with a stack as deep as the text's lists.
 ghost use Rattle.std.specs.Prelude.{◌≡◌, ◌≤◌, false};
 ghost use Rattle.sexp.specs.Checks.{Finds};
 ghost use Rattle.sexp.specs.Laws.{answer, AcceptedExactlyCanonical, RefusedAsListed, DerivesItsText, OneRecord, SameIsEqual};
@@ -8,6 +8,7 @@ use crate::refusals::Refusal;
 use crate::tokens::{Cursor, Token};
 use std::fmt;
 
+/// The most octets of a text.
 pub const MOST_TEXT: usize = 32768;
 
 /// How large a record is.

@@ -59,7 +59,7 @@ pub enum Refusal {
 
 impl Refusal {
     /// The number that stands for this refusal in the fitter's documents.
-    // A method as `part` and `offset` are, and no `From`: `u8::from(refusal)` would not say which fact is asked for.
+    // No `From`: number, part and offset are three questions of one refusal, and are put alike.
     pub fn number(self) -> u8
         ensures { result ≡ number_of self }
     {

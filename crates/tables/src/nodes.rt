@@ -4,7 +4,8 @@
 /// where its octets lie and how many there are.
 #[derive(Clone, Copy, PartialEq, Eq, Debug)]
 pub struct Node {
-    // A number and no enum: a run of nodes is memory that the caller lends, in a fixed format.
+    // A run of nodes is memory that the caller lends, in a fixed format: a number and no enum for the kind, spans and no
+    // pointers, and an atom's octets by offset and length.
     pub kind: u8,
     pub span: u32,
     pub offset: u32,

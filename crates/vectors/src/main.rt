@@ -1,12 +1,12 @@
 //! Goes through example cases, and prints each with what it gave and whether that is what it should be.
 #![tactic(auto)]
 
-mod outcome;
+mod tally;
 mod texts;
 
-use outcome::Tally;
 use std::io;
 use std::process::ExitCode;
+use tally::Tally;
 
 fn main(rt: HostRuntime) -> io::Result<ExitCode> {
     let Tally { cases, wrong } = texts::go_through(&rt)?;

@@ -1,7 +1,8 @@
 //! Texts: the examples that RFC 9804 gives, and a case for each rule of the text form and its corners.
-use crate::outcome::{Outcome, Tally};
+use crate::tally::Tally;
 use Refusal::{Malformed, OverLimit, TextLength};
 use Text::{LongList, Repeated, Written};
+use sexp::outcomes::Outcome;
 use sexp::reader::{Extent, check};
 use sexp::refusals::Refusal;
 use std::alloc::{AllocError, Global};
@@ -57,7 +58,7 @@ impl Text {
     }
 }
 
-// Each text, with the elements and the depth of its record, or with its refusal.
+// Each text, with the elements and the depth of its record, or with its refusal. A pair, and no `Extent`, for short lines.
 // A `static` that is borrowed: a proof that goes over a `const` of so many parts does not fit into memory.
 static CASES: [(Text, Result<(usize, usize), Refusal>); 66] = [
     // Accepted. The first nine are examples that RFC 9804 gives of verbatim strings and of the canonical form.

@@ -10,7 +10,7 @@ use decimal::{length, octet};
 use holder::holding::Holder;
 use holder::kinds::Kind;
 
-// The list's place.
+// The list's place. Places are numbers of 32 bits, and there is no heap for elements.
 const ROOT: u32 = 0;
 
 impl ReadingsRecord<'_> {
@@ -20,7 +20,7 @@ impl ReadingsRecord<'_> {
         requires { IsAtom (run_at place (table self.now.readings.now)) }
         ensures { octets_of (run_at place (table self.now.readings.now)) ≡ signed_decimal result }
     {
-        // Casts, here and below: there is no `From` from a `u32` to a `usize`.
+        // Casts, here and below, that are proved to lose nothing: `TryFrom` would add an error that never comes.
         self.readings[place as usize - 1]
     }
 }
