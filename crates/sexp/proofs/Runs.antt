@@ -1,6 +1,7 @@
 -- Laws of runs: `then` with count, depth, short atoms, text and reading. Assumes nothing.
-use Rattle.std.proofs.Common.{◌≡◌, ℕ, ◌+◌, max, List, [], ◌∷◌, ◌++◌, sym, refl, ap, ◌∙◌, append_assoc, arith}
-use Rattle.sexp.specs.Elements.{octets, Elements, none, atom, list, ◌then◌, count, depth}
+use Rattle.std.proofs.Common.{◌≡◌, ℕ, ◌+◌, max, List, [], ◌∷◌, ◌++◌, length, sym, refl, ap, ◌∙◌, append_assoc, arith}
+use Rattle.std.proofs.lemmas.List.{length-append}
+use Rattle.sexp.specs.Elements.{Atom, octets, Elements, none, atom, list, ◌then◌, count, depth, ShortAtoms}
 use Rattle.sexp.specs.Text.{atom_then, text_then, text}
 use Rattle.sexp.specs.Reading.{Reading, refused, read, before, onward, opened, closed}
 
@@ -24,6 +25,16 @@ depth-then none fs = omega arith
 depth-then (atom a es) fs = omega (arith, depth-then es fs)
 depth-then (list inner es) fs = omega (arith, depth-then es fs)
 
+pub short_then : (es fs : Elements) → ShortAtoms es → ShortAtoms fs → ShortAtoms (es then fs)
+short_then none fs h k = k
+short_then (atom a es) fs h k = (h.0, short_then es fs h.1 k)
+short_then (list inner es) fs h k = (h.0, short_then es fs h.1 k)
+
+pub short_parts : (es fs : Elements) → ShortAtoms (es then fs) → ShortAtoms es × ShortAtoms fs
+short_parts none fs h = (tt, h)
+short_parts (atom a es) fs h = let p = short_parts es fs h.1 in ((h.0, p.0), p.1)
+short_parts (list inner es) fs h = let p = short_parts es fs h.1 in ((h.0, p.0), p.1)
+
 pub text_then-then : (es fs : Elements) (r : List ℕ) → text_then (es then fs) r ≡ text_then es (text_then fs r)
 text_then-then none fs r = refl
 text_then-then (atom (octets os) es) fs r = ap (atom_then (octets os)) (text_then-then es fs r)
@@ -37,6 +48,16 @@ text_then-append (list inner es) r s = ap (40 ∷◌) (ap (λ t. text_then inner
 
 pub text_front : (es : Elements) (r : List ℕ) → text_then es r ≡ text es ++ r
 text_front es r = text_then-append es [] r
+
+-- how long the texts of runs are
+pub length_atom : (a : Atom) (es : Elements) → length (text (atom a es)) ≡ length (atom_then a []) + length (text es)
+length_atom a es = ap length (text_front (atom a none) (text es)) ∙ length-append (atom_then a []) (text es)
+
+pub length_list : (inner es : Elements) → length (text (list inner es)) ≡ length (text inner) + 2 + length (text es)
+length_list inner es = omega (arith, ap length (text_front inner (41 ∷ text es)), length-append (text inner) (41 ∷ text es))
+
+pub length-then : (es fs : Elements) → length (text (es then fs)) ≡ length (text es) + length (text fs)
+length-then es fs = ap length (text_then-then es fs [] ∙ text_front es (text fs)) ∙ length-append (text es) (text fs)
 
 -- reading on with nothing, and with one run and then another
 pub onward-none : (R : Reading) → onward none R ≡ R

@@ -32,13 +32,13 @@ module _ (from : Cursor) where
   moved : (k : ℕ) → drop k (drop from.at from.text.now) ≡ drop (from.at + k) from.text.now
   moved k = drop-drop k from.at from.text.now
 
-  opens : lexeme_at from ≡ opening → (reading_from from ≡ opened (reading_from (record { text = from.text; at = from.at + 1; depth = from.depth + 1; count = from.count + 1 }))) × (from.at < length from.text.now)
+  pub opens : lexeme_at from ≡ opening → (reading_from from ≡ opened (reading_from (record { text = from.text; at = from.at + 1; depth = from.depth + 1; count = from.count + 1 }))) × (from.at < length from.text.now)
   opens e = (
     step_opening (length from.text.now) from.depth from.count from.at (drop from.at from.text.now) e ∙ ap (λ r. opened (reading (length from.text.now) 0 (from.depth + 1) (from.count + 1) (from.at + 1) r)) (moved 1),
     inside opening e (λ k p. let z : ◌≡◌ {A = ℕ} 0 1 = cc in omega arith),
   )
 
-  passes : (os : List ℕ) (more : ℕ) → lexeme_at from ≡ string os more → (reading_from from ≡ onward (atom (octets os) none) (reading_from (record { text = from.text; at = from.at + (more + 1); depth = from.depth; count = from.count + 1 }))) × (from.at + (more + 1) ≤ length from.text.now)
+  pub passes : (os : List ℕ) (more : ℕ) → lexeme_at from ≡ string os more → (reading_from from ≡ onward (atom (octets os) none) (reading_from (record { text = from.text; at = from.at + (more + 1); depth = from.depth; count = from.count + 1 }))) × (from.at + (more + 1) ≤ length from.text.now)
   passes os more e = (
     step_string (length from.text.now) from.depth from.count from.at (drop from.at from.text.now) os more e ∙ ap (λ r. onward (atom (octets os) none) (reading (length from.text.now) 0 from.depth (from.count + 1) (from.at + (more + 1)) r)) (moved (more + 1)),
     omega (arith, (string_fits (length from.text.now) from.depth from.count from.at (drop from.at from.text.now) os more e).0, length-drop from.at from.text.now),

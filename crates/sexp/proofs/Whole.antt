@@ -22,7 +22,7 @@ use Rattle.sexp.proofs.Theory.{accepted_canonical, refused_listed_both, derives_
 abbrev pub start : Bor (List ℕ) → Progress
 start text = record { cursor = record { text = text; at = 0; depth = 0; count = 0 }; deepest = 0 }
 
-some_elements : (e : Elements) → Record e → 0 < count e
+pub some_elements : (e : Elements) → Record e → 0 < count e
 some_elements none r = absurd r
 some_elements (atom a es) r = omega arith
 some_elements (list inner es) r = omega arith

@@ -1,7 +1,8 @@
 //! The reader: over a text from left to right, with a stack as deep as the text's lists.
 ghost use Rattle.std.specs.Prelude.{◌≡◌, ◌≤◌, false};
 ghost use Rattle.sexp.specs.Checks.{Finds};
-ghost use Rattle.sexp.specs.Laws.{answer, AcceptedExactlyCanonical, RefusedAsListed, DerivesItsText, OneRecord, SameIsEqual};
+ghost use Rattle.sexp.specs.Laws.{answer, AcceptedExactlyCanonical, RefusedAsListed};
+ghost use Rattle.sexp.specs.Laws.{DerivesItsText, OneRecord, SameIsEqual};
 ghost use Rattle.sexp.specs.Reading.{complete, missized, verdict};
 
 use crate::refusals::Refusal;
@@ -73,8 +74,8 @@ impl<'a> Progress<'a> {
     }
 }
 
-// Whether a text is empty or too long.
-fn is_missized(text: &[u8]) -> bool
+/// Whether a text is empty or too long.
+pub fn is_missized(text: &[u8]) -> bool
     ensures { result ≡ missized text.now }
 {
     text.is_empty() || text.len() > MOST_TEXT
