@@ -1,5 +1,5 @@
 //! The elements of a holder's record. An element is a place at which one stands, so its methods ask for nothing.
-ghost use Rattle.std.specs.Prelude.{◌≡◌, ◌<◌, ◌≤◌, length, slice_index};
+ghost use Rattle.std.specs.Prelude.{◌≡◌, ◌<◌, ◌≤◌, length, slice_get, slice_index};
 ghost use Rattle.holder.specs.Contents.{Shows};
 ghost use Rattle.holder.specs.Placed.{erase, inside, behind, Stands, IsList};
 ghost use Rattle.holder.specs.Walks.{run_of, Limited};
@@ -10,7 +10,7 @@ use std::marker::Model;
 
 /// An element of a record. Contracts see the run that begins with it: the element, and those behind it in its list.
 #[derive(Drop)]
-pub(crate) struct Element<'h, H: Holder> {
+pub struct Element<'h, H: Holder> {
     holder: &'h H,
     place: u32,
 }
@@ -31,7 +31,7 @@ impl<'h, H: Holder> Model for Element<'h, H> {
 /// The octets of an atom. Contracts see the list of them.
 // The fields of `Element`, of which contracts see something else.
 #[derive(Drop)]
-pub(crate) struct Octets<'h, H: Holder> {
+pub struct Octets<'h, H: Holder> {
     holder: &'h H,
     place: u32,
 }
@@ -48,14 +48,14 @@ impl<'h, H: Holder> Model for Octets<'h, H> {
 }
 
 /// What an element is: a list, with its first element if it has one, or an atom.
-pub(crate) enum Content<'h, H: Holder> {
+pub enum Content<'h, H: Holder> {
     List(Option<Element<'h, H>>),
     Atom(Octets<'h, H>),
 }
 
 impl<'h, H: Holder> Element<'h, H> {
     /// The root of a holder's record.
-    pub(crate) fn root(holder: &'h H) -> Element<'h, H>
+    pub fn root(holder: &'h H) -> Element<'h, H>
         ensures { result ≡ (H.meaning holder.now).tree }
     {
         Element {
@@ -66,7 +66,7 @@ impl<'h, H: Holder> Element<'h, H> {
 
     /// What the element is.
     #[tactic(auto, using(crate::proofs::Walk::limited))]
-    pub(crate) fn content(&self) -> Content<'h, H>
+    pub fn content(&self) -> Content<'h, H>
         ensures shows { Shows result self.now }
         ensures within { Limited (erase self.now) }
     {
@@ -95,7 +95,7 @@ impl<'h, H: Holder> Element<'h, H> {
     /// The next element of the same list.
     // Here and in `first` no `map`: the invariant of what a closure makes is not proved.
     #[tactic(auto, using(crate::proofs::Walk::next_found, crate::proofs::Walk::next_stands))]
-    pub(crate) fn next(&self) -> Option<Element<'h, H>>
+    pub fn next(&self) -> Option<Element<'h, H>>
         ensures stands { Stands self.now }
         ensures behind { run_of result ≡ behind self.now }
     {
@@ -110,7 +110,7 @@ impl<'h, H: Holder> Element<'h, H> {
 impl<'h, H: Holder> Octets<'h, H> {
     /// How many there are.
     #[tactic(auto, using(crate::proofs::Walk::atom_short))]
-    pub(crate) fn len(&self) -> usize
+    pub fn len(&self) -> usize
         ensures len { result ≡ length self.now }
         ensures short { length self.now ≤ 1024 }
     {
@@ -123,5 +123,16 @@ impl<'h, H: Holder> Octets<'h, H> {
         ensures { result ≡ slice_index self.now index }
     {
         self.holder.octet_at(self.place, index)
+    }
+
+    /// The octet at an index, or none behind the last one.
+    pub fn get(&self, index: usize) -> Option<u8>
+        ensures { result ≡ slice_get self.now index }
+    {
+        if index < self.len() {
+            Some(self.at(index))
+        } else {
+            None
+        }
     }
 }

@@ -1,12 +1,13 @@
 //! What holds a record.
 ghost use Rattle.std.specs.Prelude.{◌≡◌, ◌<◌, length, Some, slice_index};
-ghost use Rattle.holder.specs.Placed.{Meaning, run_at, front, inside, behind, octets_of, kind_of, Stands, IsList, IsAtom};
+ghost use Rattle.holder.specs.Placed.{Meaning, run_at, front, inside, behind, octets_of, kind_of};
+ghost use Rattle.holder.specs.Placed.{Stands, IsList, IsAtom};
 
 use crate::kinds::Kind;
 
 /// A record behind questions. A place is a number that stands for one of its elements; each answer is what the record
 /// says, however often the question is put. The questions are asked only about places that the same holder gave.
-// Each question is put by a bare place, and so has a premise: others keep places as numbers, and hand them back.
+// Each question is put by a bare place, and so has a premise: what is built on holders keeps places as numbers.
 pub trait Holder {
     ghost meaning: { Self → Meaning };
 

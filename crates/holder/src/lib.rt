@@ -2,6 +2,6 @@
 #![tactic(auto)]
 
 pub mod copying;
-mod elements;
+pub mod elements;
 pub mod holding;
 pub mod kinds;
