@@ -1,0 +1,5 @@
+pub mod Label
+pub mod Lawful
+pub mod Meant
+pub mod Filled
+pub mod Walked

@@ -1,0 +1,4 @@
+//! An accepted text, held as a record.
+#![tactic(auto)]
+
+pub mod record;
