@@ -1,1 +1,4 @@
-pub mod Laid
+pub mod Passing
+pub mod Tabled
+pub mod Meaning
+pub mod Spots

@@ -22,3 +22,8 @@ pub record Table (beside : List ℕ) (nodes : List Node) (e : Elements) : Type 0
   pub lays : Lays beside nodes e
   pub root : Record e
   pub within : Within e
+
+-- the nodes are the table of some record
+pub record IsTable (beside : List ℕ) (nodes : List Node) : Type 0 where
+  pub elements : Elements
+  pub table : Table beside nodes elements
