@@ -1,7 +1,7 @@
-// How much of a node memory is used, and the guard that sets it back.
+//! How much of a node memory is used, and the guard that sets it back.
 ghost use Rattle.std.specs.Prelude.{◌≡◌};
 
-// The number of used nodes, which are those at the front of a node memory.
+/// The number of used nodes, which are those at the front of a node memory.
 #[derive(Clone, Copy, PartialEq, Eq, Debug)]
 pub struct Mark {
     pub used: usize,
@@ -17,8 +17,8 @@ impl Drop for Guard<'_> {
     fn drop(self)
         ensures { self.exit.0.now.used ≡ self.entry.start }
     {
-        self.mark.used = self.start;
-        let Guard { mark: _, start: _ } = self;
+        let Guard { mark, start } = self;
+        mark.used = start;
     }
 }
 

@@ -1,3 +1,4 @@
 pub mod Lacking
+pub mod Laid
 pub mod Loads
 pub mod Fills
