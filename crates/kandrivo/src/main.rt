@@ -3,19 +3,28 @@
 
 mod checking;
 mod files;
+mod outlining;
+mod sources;
 
 use checking::check_file;
+use outlining::print_record;
 use std::env::Args;
 use std::process::ExitCode;
 use std::{env, io};
 
-const USAGE: &str = "usage: kandrivo check FILE...";
+const USAGE: &str = "usage: kandrivo check FILE...\n       kandrivo tree RECORD...";
 
-// Checks each file, those behind one that is not accepted too.
-fn check_files(rt: &HostRuntime, paths: Args) -> io::Result<ExitCode> {
+// Does something with each name, with those behind one that went wrong too.
+fn for_each<F: Fn(&HostRuntime, &str) -> io::Result<bool>>(
+    rt: &HostRuntime,
+    names: Args,
+    act: F,
+) -> io::Result<ExitCode>
+    requires { F.IsAlwaysCallable act }
+{
     let mut status = ExitCode::SUCCESS;
-    for path in paths {
-        if !check_file(rt, path.as_str())? {
+    for name in names {
+        if !act(rt, name.as_str())? {
             status = ExitCode::FAILURE;
         }
     }
@@ -28,7 +37,8 @@ fn main(rt: HostRuntime) -> io::Result<ExitCode> {
     let mut args = env::args(&rt)?;
     let _program = args.next();
     match args.next().as_deref() {
-        Some("check") if args.len() > 0 => check_files(&rt, args),
+        Some("check") if args.len() > 0 => for_each(&rt, args, check_file),
+        Some("tree") if args.len() > 0 => for_each(&rt, args, print_record),
         _ => {
             eprintln!(rt; "{USAGE}")?;
             Ok(ExitCode::FAILURE)
