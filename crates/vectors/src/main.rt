@@ -1,6 +1,8 @@
 //! Goes through example cases, and prints each with what it gave and whether that is what it should be.
 #![tactic(auto)]
 
+mod holders;
+mod loads;
 mod tally;
 mod texts;
 
@@ -9,7 +11,12 @@ use std::process::ExitCode;
 use tally::Tally;
 
 fn main(rt: HostRuntime) -> io::Result<ExitCode> {
-    let Tally { cases, wrong } = texts::go_through(&rt)?;
+    let mut tally = Tally::default();
+    texts::texts(&rt, &mut tally)?;
+    holders::readings(&rt, &mut tally)?;
+    holders::tables(&rt, &mut tally)?;
+    loads::loads(&rt, &mut tally)?;
+    let Tally { cases, wrong } = tally;
     println!(rt; "{cases} cases, {wrong} wrong")?;
     Ok(if wrong == 0 {
         ExitCode::SUCCESS

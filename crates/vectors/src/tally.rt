@@ -1,6 +1,5 @@
 //! How many cases there were, and how many gave something else than they should.
-use sexp::outcomes::Outcome;
-use std::io;
+use std::{fmt, io};
 
 /// The count of the cases.
 #[derive(Default, Drop)]
@@ -11,15 +10,15 @@ pub struct Tally {
 
 impl Tally {
     /// Prints a case, and counts it.
-    pub(crate) fn case(
+    pub(crate) fn case<T: fmt::Display + PartialEq>(
         &mut self,
         rt: &HostRuntime,
         name: &str,
-        gave: Outcome,
-        should: Outcome,
+        gave: &T,
+        should: &T,
     ) -> io::Result<()> {
         self.cases = self.cases.saturating_add(1);
-        if gave == should {
+        if *gave == *should {
             return println!(rt; "right: {name}: {gave}");
         }
         self.wrong = self.wrong.saturating_add(1);

@@ -58,7 +58,8 @@ impl Text {
     }
 }
 
-// Each text, with the elements and the depth of its record, or with its refusal. A pair, and no `Extent`, for short lines.
+// Each text, with the elements and the depth of its record, or with its refusal. A pair, and no `Extent`: the lines are
+// short then.
 // A `static` that is borrowed: a proof that goes over a `const` of so many parts does not fit into memory.
 static CASES: [(Text, Result<(usize, usize), Refusal>); 66] = [
     // Accepted. The first nine are examples that RFC 9804 gives of verbatim strings and of the canonical form.
@@ -315,13 +316,12 @@ static CASES: [(Text, Result<(usize, usize), Refusal>); 66] = [
 ];
 
 /// Goes through the cases, and prints each.
-pub(crate) fn go_through(rt: &HostRuntime) -> io::Result<Tally> {
-    let mut tally = Tally::default();
+pub(crate) fn texts(rt: &HostRuntime, tally: &mut Tally) -> io::Result<()> {
     for (text, should) in &CASES {
         let octets = text.spelled_out(rt.alloc())?;
         let gave = Outcome(check(octets.as_bytes()));
         let should = should.map(|(elements, depth)| Extent { elements, depth });
-        tally.case(rt, text.name(), gave, Outcome(should))?;
+        tally.case(rt, text.name(), &gave, &Outcome(should))?;
     }
-    Ok(tally)
+    Ok(())
 }
