@@ -1,23 +1,23 @@
 -- Tokens passed one after another lead to the end of the element at a place. Assumes nothing.
-use Rattle.std.proofs.Common.{Bor, ◌≡◌, ℕ, ◌+◌, ◌-◌, ◌<◌, ◌≤◌, List, [], ◌∷◌, ◌++◌, length, drop, decimal, Ok, Err, sym, refl, ap, ◌∙◌, subst, inl, inr, append_assoc, arith}
+use Rattle.std.proofs.Common.{Bor, ◌≡◌, ℕ, ◌+◌, ◌-◌, ◌<◌, ◌≤◌, List, [], ◌∷◌, ◌++◌, length, drop, decimal, true, Ok, Err, Result, sym, refl, ap, ◌∙◌, subst, inl, inr, append_assoc, arith}
 use Rattle.std.proofs.lemmas.List.{length-append, length-drop}
 use Rattle.sexp.specs.declared.refusals.Refusal.{Refusal}
 use Rattle.sexp.specs.declared.tokens.Cursor.{Cursor}
 use Rattle.sexp.specs.declared.tokens.Step.{Step}
 use Rattle.sexp.specs.declared.tokens.Token.{Token}
-use Rattle.sexp.specs.declared.tokens.Token.TheVariants.{Opening, Closing, Atom}
+use Rattle.sexp.specs.declared.tokens.Token.TheVariants.{Opening, Closing, Atom as AtomToken}
 use Rattle.sexp.specs.Elements.{octets, Elements, none, atom, list, count, depth, ShortAtoms, Within}
 use Rattle.sexp.specs.Faults.{Due, Room}
-use Rattle.sexp.specs.Reading.{Lexeme, opening, closing, string, fault, lexeme}
+use Rattle.sexp.specs.Reading.{Lexeme, opening, closing, string, fault, lexeme, verdict}
 use Rattle.sexp.specs.Text.{atom_then, text_then, text}
 use Rattle.sexp.specs.Tokens.{lexeme_at, TellsToken, Tells}
 use Rattle.sexp.proofs.Decimal.{decimal_is}
 use Rattle.sexp.proofs.Lexing.{lex_opening, lex_closing, lex_atom}
 use Rattle.holder.specs.Placed.{Placed, octets_of, Stands, IsAtom}
 use Rattle.holder.specs.Walks.{first_of}
-use Rattle.texts.specs.Label.{label}
-use Rattle.texts.specs.Walked.{reading_at, end_at}
-use Rattle.texts.proofs.Standing.{Found, drop_past, tail, inside_text, stands_text}
+use Rattle.texts.specs.Label.{label, accepts}
+use Rattle.texts.specs.Walked.{run_from, reading_at, end_at, FirstToken, TellsElement}
+use Rattle.texts.proofs.Standing.{Found, found, drop_past, tail, inside_text, stands_text}
 
 -- the text of what is left of some open lists, the innermost first, each with its ")", and then rest
 abbrev pub closing_then : List Elements → List ℕ → List ℕ
@@ -139,7 +139,7 @@ module _ (end : ℕ) (from : Cursor) where
   onward : (l : Lexeme) (token : Token) (next : Cursor) → After end from l → TellsToken from l token next → Onward next
   onward l (Opening at) next a tells = onward_to _ _ _ next (subst (After end from) tells.0 a) tells.2
   onward l (Closing at) next a tells = onward_to _ _ _ next (subst (After end from) tells.0 a) tells.2
-  onward l (Atom at os) next a tells = onward_to _ _ _ next (subst (After end from) tells.1 a) tells.3
+  onward l (AtomToken at os) next a tells = onward_to _ _ _ next (subst (After end from) tells.1 a) tells.3
 
   pub told : (s : Step) → Here → Tells from (lexeme_at from) (Ok s) → Onward s.next
   told s a tells = onward (lexeme_at from) s.token s.next a tells
@@ -197,7 +197,7 @@ module _ (given : Bor (List ℕ)) (p : ℕ) (r : Placed) (f : Found given.now p 
   abbrev pub Spells : Token → Type 0
   Spells (Opening at) = ⊥
   Spells (Closing at) = ⊥
-  Spells (Atom at os) = os.now ≡ octets_of r
+  Spells (AtomToken at os) = os.now ≡ octets_of r
 
   pub spells : (token : Token) (next : Cursor) → IsAtom r → TellsToken (reading_at given p) first token next → Spells token
   spells token next s =
@@ -207,4 +207,29 @@ module _ (given : Bor (List ℕ)) (p : ℕ) (r : Placed) (f : Found given.now p 
       go : (token : Token) → first ≡ string (octets_of r) (more_of (octets_of r)) → TellsToken (reading_at given p) first token next → Spells token
       go (Opening at) e tells = let t = tells.0 in cc
       go (Closing at) e tells = let t = tells.0 in cc
-      go (Atom at os) e tells = let t = tells.1 in cc
+      go (AtomToken at os) e tells = let t = tells.1 in cc
+
+  -- the first token of an element
+  opens : (inner es : Elements) (rest : List ℕ) → drop p given.now ≡ text_then (list inner es) rest → first ≡ opening
+  opens inner es rest here =
+      lexed 0 (reading_at given p) (40 ∷ text_then inner (41 ∷ text_then es rest)) opening here
+      (lex_opening (length given.now) 0 0 p (text_then inner (41 ∷ text_then es rest)) (inr refl) (omega arith, omega arith))
+
+  first_token : (es : Elements) (rest : List ℕ) → drop p given.now ≡ text_then es rest → Within es → (token : Token) (next : Cursor)
+      → Stands (label p es) → TellsToken (reading_at given p) first token next → FirstToken (label p es) token
+  first_token none rest here w token next s t = absurd s
+  first_token (atom (octets os) es) rest here w (Opening at) next s t = let e = atom_lexed (atom (octets os) es) rest tt here w.short in let o = t.0 in cc
+  first_token (atom (octets os) es) rest here w (Closing at) next s t = let e = atom_lexed (atom (octets os) es) rest tt here w.short in let o = t.0 in cc
+  first_token (atom (octets os) es) rest here w (AtomToken at cs) next s t = let e = atom_lexed (atom (octets os) es) rest tt here w.short in let o = t.1 in (t.2, cc)
+  first_token (list inner es) rest here w (Opening at) next s t = t.1
+  first_token (list inner es) rest here w (Closing at) next s t = let e = opens inner es rest here in let o = t.0 in cc
+  first_token (list inner es) rest here w (AtomToken at cs) next s t = let e = opens inner es rest here in let o = t.1 in cc
+
+  found_token : (token : Token) (next : Cursor) → Stands r → TellsToken (reading_at given p) first token next → FirstToken r token
+  found_token token next s t = subst (λ x. FirstToken x token) (sym f.same) (first_token f.run f.rest f.here f.within token next (subst Stands f.same s) t)
+
+pub tells_element : (given : Bor (List ℕ)) (p : ℕ) → accepts (verdict given.now) ≡ true → (told : Result Step Refusal)
+    → Tells (reading_at given p) (lexeme_at (reading_at given p)) told → TellsElement (run_from given.now p) told
+tells_element given p ok (Ok s) t = λ stands. found_token given p (run_from given.now p) (found given.now p ok stands) s.token s.next stands t
+tells_element given p ok (Err k) t = λ stands.
+    never_fault (end_at p (run_from given.now p)) (reading_at given p) k (first_after given p (run_from given.now p) (found given.now p ok stands) stands) t

@@ -1,11 +1,15 @@
--- What the private functions that walk a text tell. Assumes nothing.
-use Rattle.std.specs.Prelude.{ℕ, ◌+◌, cond, List, [], ◌∷◌, length, Ok, Option, Some, None, ◌==◌}
+-- What is told of a text at a place. Assumes nothing.
+use Rattle.std.specs.Prelude.{◌≡◌, ℕ, ◌+◌, cond, List, [], ◌∷◌, length, Ok, Err, Result, Option, Some, None, ◌==◌}
 use Rattle.std.specs.Borrow.{Bor}
 use Rattle.sexp.specs.declared.tokens.Cursor.{Cursor}
 use Rattle.sexp.specs.declared.tokens.Step.{Step}
+use Rattle.sexp.specs.declared.refusals.Refusal.{Refusal}
+use Rattle.sexp.specs.declared.tokens.Token.{Token}
+use Rattle.sexp.specs.declared.tokens.Token.TheVariants.{Opening, Closing, Atom as AtomToken}
+use Rattle.sexp.specs.Elements.{octets}
 use Rattle.sexp.specs.Text.{text}
 use Rattle.sexp.specs.Tokens.{lexeme_at, Tells}
-use Rattle.holder.specs.Placed.{Placed, run_at}
+use Rattle.holder.specs.Placed.{Placed, nothing, atom_at, list_at, run_at, Stands}
 use Rattle.holder.specs.Walks.{first_of}
 use Rattle.texts.specs.Label.{text_tree}
 
@@ -20,6 +24,21 @@ reading_at text place = record { text = text; at = place; depth = 0; count = 0 }
 -- a step tells the first token of the element at a place
 abbrev pub TellsFirst : Bor (List ℕ) → ℕ → Step → Type 0
 TellsFirst text place step = Tells (reading_at text place) (lexeme_at (reading_at text place)) (Ok step)
+
+-- a token is the first one of an element, the first of a run: an atom with its octets, or a list's opening, at the element's place
+abbrev pub FirstToken : Placed → Token → Type 0
+FirstToken nothing token = ⊥
+FirstToken (atom_at p a es) (Opening at) = ⊥
+FirstToken (atom_at p a es) (Closing at) = ⊥
+FirstToken (atom_at p a es) (AtomToken at os) = (at ≡ p) × (octets os.now ≡ a)
+FirstToken (list_at p inner es) (Opening at) = at ≡ p
+FirstToken (list_at p inner es) (Closing at) = ⊥
+FirstToken (list_at p inner es) (AtomToken at os) = ⊥
+
+-- where the run r begins with an element, its first token is told
+abbrev pub TellsElement : Placed → Result Step Refusal → Type 0
+TellsElement r (Ok s) = Stands r → FirstToken r s.token
+TellsElement r (Err k) = Stands r → ⊥
 
 -- the offset behind the element at a place, with which the run r begins: its text stands between
 abbrev pub end_at : ℕ → Placed → ℕ

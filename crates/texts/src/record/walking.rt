@@ -1,16 +1,20 @@
 //! The walk over the text.
 ghost use Rattle.std.specs.Prelude.{◌≡◌, drop};
 ghost use Rattle.holder.specs.Placed.{octets_of, Stands, IsAtom};
-ghost use Rattle.texts.specs.Walked.{run_from, end_at, beginning, TellsFirst};
+ghost use Rattle.sexp.specs.Tokens.{lexeme_at, Tells};
+ghost use Rattle.texts.specs.Walked.{run_from, reading_at, end_at, beginning, TellsFirst, TellsElement};
 
 use super::TextRecord;
+use sexp::refusals::Refusal;
 use sexp::tokens::{Cursor, Step, Token};
 
 impl<'a> TextRecord<'a> {
-    // The first token of the element at a place. The element is read as a root is.
-    fn token_at(&self, place: u32) -> Step<'a>
-        requires { Stands (run_from self.now.text.now place) }
-        ensures { TellsFirst self.now.text place result }
+    /// The token at a place, and the cursor behind it: an atom, or the opening of a list, where an element stands there.
+    /// The element is read as a root is.
+    #[tactic(auto, using(crate::proofs::Passing::tells_element))]
+    pub fn token_at(&self, place: u32) -> Result<Step<'a>, Refusal>
+        ensures token { let from = reading_at self.now.text place in Tells from (lexeme_at from) result }
+        ensures element { TellsElement (run_from self.now.text.now place) result }
     {
         let cursor = Cursor {
             text: self.text,
@@ -19,7 +23,15 @@ impl<'a> TextRecord<'a> {
             depth: 0,
             count: 0,
         };
-        match cursor.next() {
+        cursor.next()
+    }
+
+    // The first token of the element at a place.
+    fn first_token(&self, place: u32) -> Step<'a>
+        requires { Stands (run_from self.now.text.now place) }
+        ensures { TellsFirst self.now.text place result }
+    {
+        match self.token_at(place) {
             Ok(step) => step,
             Err(_) => unreachable!(),
         }
@@ -30,7 +42,7 @@ impl<'a> TextRecord<'a> {
         requires { IsAtom (run_from self.now.text.now place) }
         ensures { result.now ≡ octets_of (run_from self.now.text.now place) }
     {
-        match self.token_at(place).token {
+        match self.first_token(place).token {
             Token::Atom { octets, .. } => octets,
             Token::Opening { .. } | Token::Closing { .. } => unreachable!(),
         }
@@ -41,7 +53,7 @@ impl<'a> TextRecord<'a> {
         requires { Stands (run_from self.now.text.now place) }
         ensures { result ≡ end_at place (run_from self.now.text.now place) }
     {
-        let mut cursor = self.token_at(place).next;
+        let mut cursor = self.first_token(place).next;
         while cursor.depth > 0 {
             cursor = match cursor.next() {
                 Ok(step) => step.next,

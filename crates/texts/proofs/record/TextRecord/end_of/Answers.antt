@@ -10,7 +10,7 @@ loop-cursor-init c =
     let place = c.args.place in
     let run = run_from held.text.now place in
     let at = found held.text.now place held.ok c.requires in
-    let step = told (end_at place run) (reading_at held.text place) c.token_at.result (first_after held.text place run at c.requires) c.token_at.ensures in
+    let step = told (end_at place run) (reading_at held.text place) c.first_token.result (first_after held.text place run at c.requires) c.first_token.ensures in
     record { same = step.same; ahead = step.ahead }
 
 pub unreachable-requires : goal.unreachable-requires

@@ -11,7 +11,7 @@ unreachable-requires c =
     let place = c.args.place in
     let run = run_from held.text.now place in
     let at = found held.text.now place held.ok (atom_stands run c.requires) in
-    let told = spells held.text place run at c.token_at.result.token c.token_at.result.next c.requires c.token_at.ensures in
+    let told = spells held.text place run at c.first_token.result.token c.first_token.result.next c.requires c.first_token.ensures in
     ⊎_elim
     (λ w. subst (Spells held.text place run at) w.1 told)
     (λ w. subst (Spells held.text place run at) w.1 told)
@@ -23,5 +23,5 @@ returns c =
     let place = c.args.place in
     let run = run_from held.text.now place in
     let at = found held.text.now place held.ok (atom_stands run c.requires) in
-    let told = spells held.text place run at c.token_at.result.token c.token_at.result.next c.requires c.token_at.ensures in
+    let told = spells held.text place run at c.first_token.result.token c.first_token.result.next c.requires c.first_token.ensures in
     subst (Spells held.text place run at) c.in-Atom.is told

@@ -1,7 +1,7 @@
 use Rattle.texts.specs.Walked.{run_from, reading_at, end_at}
 use Rattle.texts.proofs.Standing.{found}
 use Rattle.texts.proofs.Passing.{first_after, never_fault}
-use Rattle.texts.proofs.record.TextRecord.token_at.Goals as goal
+use Rattle.texts.proofs.record.TextRecord.first_token.Goals as goal
 
 pub unreachable-requires : goal.unreachable-requires
 unreachable-requires c =
