@@ -4,7 +4,8 @@ use Rattle.std.specs.List.{flat_map}
 use Rattle.std.specs.Prelude.{slice_get}
 use Rattle.std.proofs.lemmas.List.{flat_map_more, take_more, replicate-append-replicate}
 use Rattle.holder.specs.Placed.{Placed, nothing, atom_at, list_at, erase, Stands}
-use Rattle.outlines.specs.Outline.{shown, list_line}
+use Rattle.outlines.specs.Escapes.{shown}
+use Rattle.outlines.specs.Outline.{list_line}
 
 -- a list that holds an element is not empty
 pub filled : (r : Placed) → Stands r → list_line (erase r) ≡ 108 ∷ (105 ∷ (115 ∷ (116 ∷ (10 ∷ []))))

@@ -1,4 +1,5 @@
 //! Records as outlines that a person can read.
 #![tactic(auto)]
 
+pub mod escapes;
 pub mod outline;

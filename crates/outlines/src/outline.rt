@@ -5,34 +5,12 @@ ghost use Rattle.holder.specs.Contents.{Standing};
 ghost use Rattle.holder.specs.Copies.{record_of};
 ghost use Rattle.holder.specs.Placed.{erase};
 ghost use Rattle.holder.specs.Walks.{run_of, first_of};
-ghost use Rattle.outlines.specs.Outline.{hex_digit, shown, atom_line, list_line, outline};
+ghost use Rattle.outlines.specs.Outline.{atom_line, list_line, outline};
 
+use crate::escapes::add_octet;
 use holder::elements::{Content, Element, Octets};
 use holder::holding::Holder;
 use std::alloc::{AllocError, Global};
-
-// A hexadecimal digit.
-fn hex_digit(digit: u8) -> u8
-    requires { digit < 16 }
-    ensures { result ≡ hex_digit digit }
-{
-    if digit < 10 {
-        b'0' + digit
-    } else {
-        b'a' + (digit - 10)
-    }
-}
-
-// Adds an octet as it is shown.
-fn add_octet(lines: &mut Vec<u8>, octet: u8) -> Result<(), AllocError>
-    ensures { OnOk result (lines.new.items ≡ lines.old.items ++ shown octet) }
-{
-    match octet {
-        b'\\' => lines.extend_from_slice(b"\\\\"),
-        b' '..=b'~' => lines.extend_from_slice(&[octet]),
-        _ => lines.extend_from_slice(&[b'\\', b'x', hex_digit(octet / 16), hex_digit(octet % 16)]),
-    }
-}
 
 // Adds an atom's line, but for its indent.
 fn add_atom<H: Holder>(lines: &mut Vec<u8>, octets: &Octets<'_, H>) -> Result<(), AllocError>

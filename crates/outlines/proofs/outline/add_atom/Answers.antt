@@ -1,6 +1,6 @@
 use Rattle.std.proofs.Common.{rules, ◌≡◌, ◌<◌, ◌++◌, length, get_or, sym, ◌∙◌}
 use Rattle.std.proofs.lemmas.Option.{get_or_from_slice_get}
-use Rattle.outlines.specs.Outline.{shown}
+use Rattle.outlines.specs.Escapes.{shown}
 use Rattle.outlines.proofs.Lines.{found, shown_more}
 use Rattle.outlines.proofs.outline.add_atom.Goals.{in-Some+in_ok-add_octet, in_default}
 use Rattle.outlines.proofs.outline.add_atom.Goals as goal

@@ -1,6 +1,6 @@
 use Rattle.std.proofs.Common.{◌≡◌, ◌++◌, take}
 use Rattle.std.specs.List.{flat_map}
-use Rattle.outlines.specs.Outline.{shown}
+use Rattle.outlines.specs.Escapes.{shown}
 use Rattle.outlines.proofs.outline.add_atom.Given as goal
 
 -- the octets shown so far
