@@ -1,0 +1,16 @@
+pub mod Slots
+pub mod Told
+pub mod Scans
+pub mod Listing
+pub mod FaultsNames
+pub mod FaultsItem
+pub mod FaultsSide
+pub mod Faults
+pub mod LawfulRuns
+pub mod LawfulSide
+pub mod Lawful
+pub mod Runs
+pub mod Halves
+pub mod Taken
+pub mod Begun
+pub mod Numbered

@@ -1,0 +1,8 @@
+//! Books of rules, taken rule by rule from a text.
+#![tactic(auto)]
+
+pub mod books;
+mod checking;
+pub mod drafts;
+pub mod names;
+mod sides;
