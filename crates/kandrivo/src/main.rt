@@ -5,14 +5,17 @@ mod checking;
 mod files;
 mod outlining;
 mod sources;
+mod taking;
 
 use checking::check_file;
 use outlining::print_record;
 use std::env::Args;
 use std::process::ExitCode;
 use std::{env, io};
+use taking::print_book;
 
-const USAGE: &str = "usage: kandrivo check FILE...\n       kandrivo tree RECORD...";
+const USAGE: &str =
+    "usage: kandrivo check FILE...\n       kandrivo tree RECORD...\n       kandrivo book FILE";
 
 // Does something with each name, with those behind one that went wrong too.
 fn for_each<F: Fn(&HostRuntime, &str) -> io::Result<bool>>(
@@ -38,6 +41,7 @@ fn main(rt: HostRuntime) -> io::Result<ExitCode> {
     let _program = args.next();
     match args.next().as_deref() {
         Some("check") if args.len() > 0 => for_each(&rt, args, check_file),
+        Some("book") if args.len() == 1 => for_each(&rt, args, print_book),
         Some("tree") if args.len() > 0 => for_each(&rt, args, print_record),
         _ => {
             eprintln!(rt; "{USAGE}")?;

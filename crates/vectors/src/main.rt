@@ -1,10 +1,11 @@
 //! Goes through example cases, and prints each with what it gave and whether that is what it should be.
 #![tactic(auto)]
 
+mod drafts;
 mod holders;
 mod loads;
 mod tally;
-mod texts;
+mod verdicts;
 
 use std::io;
 use std::process::ExitCode;
@@ -12,10 +13,11 @@ use tally::Tally;
 
 fn main(rt: HostRuntime) -> io::Result<ExitCode> {
     let mut tally = Tally::default();
-    texts::texts(&rt, &mut tally)?;
+    verdicts::verdicts(&rt, &mut tally)?;
     holders::readings(&rt, &mut tally)?;
     holders::tables(&rt, &mut tally)?;
     loads::loads(&rt, &mut tally)?;
+    drafts::drafts(&rt, &mut tally)?;
     let Tally { cases, wrong } = tally;
     println!(rt; "{cases} cases, {wrong} wrong")?;
     Ok(if wrong == 0 {

@@ -8,12 +8,12 @@ use sexp::refusals::Refusal;
 use std::alloc::{AllocError, Global};
 use std::io;
 
-// The text of a case.
+/// The text of a case.
 #[derive(Clone, Copy)]
-enum Text {
-    // Written out, which names it too.
+pub(crate) enum Text {
+    /// Written out, which names it too.
     Written(&'static str),
-    // Too long for that: a front, a part that is repeated, and a back.
+    /// Too long for that: a front, a part that is repeated, and a back.
     Repeated {
         name: &'static str,
         front: &'static str,
@@ -21,7 +21,7 @@ enum Text {
         times: usize,
         back: &'static str,
     },
-    // A list of 31 atoms of 1,024 octets, and of one more atom with `last` octets.
+    /// A list of 31 atoms of 1,024 octets, and of one more atom with `last` octets.
     LongList {
         name: &'static str,
         last: usize,
@@ -29,13 +29,13 @@ enum Text {
 }
 
 impl Text {
-    fn name(self) -> &'static str {
+    pub(crate) fn name(self) -> &'static str {
         match self {
             Written(name) | Repeated { name, .. } | LongList { name, .. } => name,
         }
     }
 
-    fn spelled_out(self, heap: Global) -> Result<String, AllocError> {
+    pub(crate) fn spelled_out(self, heap: Global) -> Result<String, AllocError> {
         match self {
             Written(text) => String::from_str(heap, text),
             Repeated {
@@ -316,7 +316,7 @@ static CASES: [(Text, Result<(usize, usize), Refusal>); 66] = [
 ];
 
 /// Goes through the cases, and prints each.
-pub(crate) fn texts(rt: &HostRuntime, tally: &mut Tally) -> io::Result<()> {
+pub(crate) fn verdicts(rt: &HostRuntime, tally: &mut Tally) -> io::Result<()> {
     for (text, should) in &CASES {
         let octets = text.spelled_out(rt.alloc())?;
         let gave = Outcome(check(octets.as_bytes()));
