@@ -43,7 +43,7 @@ pub smaller_four : {ms ns : List ℕ} → Smaller ms ns → length ms ≤ 4 → 
 smaller_four s l = smaller_take s 4 _ _ l
 
 -- keys
-before_tells : {j k : Key} → Before j k → (j.rule < k.rule) ⊎ ((j.rule ≡ k.rule) × Smaller j.lengths k.lengths)
+pub before_tells : {j k : Key} → Before j k → (j.rule < k.rule) ⊎ ((j.rule ≡ k.rule) × Smaller j.lengths k.lengths)
 before_tells (by_rule h) = inl h
 before_tells (by_lengths s) = inr (refl, s)
 

@@ -6,3 +6,4 @@ pub mod Fits
 pub mod Keys
 pub mod Complete
 pub mod Goals
+pub mod Lawful
