@@ -23,7 +23,7 @@ width_more nothing p e = cc
 width_more (atom_at q a es) p e = omega arith
 width_more (list_at q inner es) p e = omega arith
 
-pub width_none : (x : Placed) → front x ≡ None → width (erase x) ≡ 0
+width_none : (x : Placed) → front x ≡ None → width (erase x) ≡ 0
 width_none nothing e = refl
 width_none (atom_at q a es) e = cc
 width_none (list_at q inner es) e = cc
@@ -54,7 +54,7 @@ module _ (t : List ℕ) (ok : accepts (verdict t) ≡ true) (place p : ℕ) (lis
 
   -- the second is at q
   module _ (q : ℕ) (second : Some q ≡ front (behind (run_from t p))) where
-    template_run : run_from t q ≡ behind (inside (run_from t place))
+    pub template_run : run_from t q ≡ behind (inside (run_from t place))
     template_run = next_run t ok p q pattern_stands (sym second) ∙ ap behind pattern_run
 
     behind_pattern : front (behind (inside (run_from t place))) ≡ Some q

@@ -14,7 +14,7 @@ use Rattle.books.specs.Items.{first_items}
 use Rattle.books.specs.Scanning.{scan}
 use Rattle.books.specs.Faults.{Faultless}
 use Rattle.books.specs.Drafts.{Drafted, rule_of, sides_verdict, rule_verdict, take_verdict, TakesWhatIsWritten}
-use Rattle.books.specs.Lawful.{LawfulRule}
+use Rattle.rules.specs.Lawful.{LawfulRule}
 use Rattle.books.proofs.Faults.{side_clean, SidesTold, sides_told}
 use Rattle.books.proofs.LawfulRuns.{stands_width, slots_first}
 use Rattle.books.proofs.LawfulSide.{agree, bound, few_names, first_written, lawful_side}

@@ -17,7 +17,7 @@ use Rattle.rules.specs.Signs.{HasSign}
 use Rattle.rules.proofs.Writing.{written-pattern_of}
 use Rattle.rules.proofs.Orders.{in_right}
 use Rattle.books.specs.Faults.{Writes, Named, Fault, written_by, names_before, Faultless}
-use Rattle.books.specs.Lawful.{LawfulSide}
+use Rattle.rules.specs.Lawful.{LawfulSide}
 use Rattle.books.proofs.FaultsNames.{added, added_known, added_new, firsts_added, in_added, sign_in, sign_none}
 use Rattle.books.proofs.FaultsItem.{Shape, plain, unsigned, name, shape, plain_signed, name_signed, plain_written, unsigned_written, name_written, differ_tells, differ_same, plain_behind, name_behind, written_then}
 use Rattle.books.proofs.LawfulRuns.{first_record, count_first, slots_first, AllSigned, signed_first}

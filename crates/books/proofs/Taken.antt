@@ -12,7 +12,7 @@ use Rattle.texts.specs.Label.{accepts}
 use Rattle.texts.specs.Walked.{run_from}
 use Rattle.rules.specs.Patterns.{Rule}
 use Rattle.books.specs.Drafts.{Drafted, rule_verdict, take_verdict, numbered, taking, skipped, TakeRefusedAsListed}
-use Rattle.books.specs.Lawful.{LawfulRules, LawfulBook}
+use Rattle.rules.specs.Lawful.{LawfulRules, LawfulBook}
 use Rattle.books.specs.Meant.{rule_at, run_from_next, NextStands, AllTaken, Keeps}
 use Rattle.books.proofs.Runs.{stands_next, passed_run}
 use Rattle.books.proofs.Faults.{take_listed}

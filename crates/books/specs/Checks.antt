@@ -3,11 +3,14 @@ use Rattle.std.specs.Prelude.{◌≡◌, ℕ, List, Ok, Err, Result, Option, Som
 use Rattle.sexp.specs.declared.refusals.Refusal.{Refusal}
 use Rattle.holder.specs.Placed.{Placed, erase, inside, behind, run_at, IsList}
 use Rattle.texts.specs.Label.{text_tree}
+use Rattle.texts.specs.declared.record.TextRecord.{TextRecord}
 use Rattle.rules.specs.Bindings.{width}
-use Rattle.rules.specs.Patterns.{Slot}
+use Rattle.rules.specs.Fits.{IsRule}
+use Rattle.rules.specs.Patterns.{Rule, Slot}
 use Rattle.books.specs.declared.checking.Check.{Check}
 use Rattle.books.specs.Scanning.{Seen}
 use Rattle.books.specs.Drafts.{rule_of, rule_verdict}
+use Rattle.books.specs.Meant.{NoneHas}
 
 abbrev pub seen_by : Check → Seen
 seen_by c = record { elements = c.elements; names = c.names }
@@ -32,3 +35,9 @@ Halves text r None = IsList r → width (erase (inside r)) ≡ 2 → ⊥
 abbrev pub IsVerdict : Placed → Result (Unit {0}) Refusal → Type 0
 IsVerdict r (Ok done) = rule_verdict r ≡ Ok (rule_of (inside r) (behind (inside r)))
 IsVerdict r (Err k) = rule_verdict r ≡ Err k
+
+-- a text, and the place in it of a rule without a fault, or none where no rule has the number
+abbrev pub RuleStands : List Rule → ℕ → Option (TextRecord × ℕ) → Type 0
+RuleStands rules n (Some (text, place)) =
+    (q : Rule) × IsRule rules n q × (rule_verdict (run_at place (text_tree text.text.now)) ≡ Ok q)
+RuleStands rules n None = NoneHas rules n

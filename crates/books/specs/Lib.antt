@@ -1,7 +1,6 @@
 pub mod Items
 pub mod Scanning
 pub mod Faults
-pub mod Lawful
 pub mod Drafts
 pub mod Meant
 pub mod Codes

@@ -2,8 +2,11 @@
 use Rattle.std.specs.Prelude.{◌≡◌, ℕ, ◌≤◌, List, [], ◌∷◌, length, take, Option, Some, None, Ok}
 use Rattle.holder.specs.Placed.{Placed, nothing, run_at, inside, behind, Stands}
 use Rattle.texts.specs.Label.{text_tree}
-use Rattle.rules.specs.Patterns.{Rule, Slot, names}
+use Rattle.holder.specs.Walks.{first_of}
+use Rattle.rules.specs.Patterns.{Pattern, Rule, Slot, names, written}
 use Rattle.rules.specs.Fits.{IsRule}
+use Rattle.rules.specs.Lawful.{LawfulRule}
+use Rattle.books.specs.declared.places.PlacedRule.{PlacedRule}
 use Rattle.books.specs.Drafts.{rule_of, rule_verdict}
 
 -- the run that begins at a place of a text, or none
@@ -31,7 +34,27 @@ pub record Keeps (text places : List ℕ) (taken : ℕ) : Type 0 where
   pub room : length places ≡ 64
   pub each : AllTaken text (take taken places)
 
+-- no rule of a book has the number
+abbrev pub NoneHas : List Rule → ℕ → Type 0
+NoneHas rules n = (r : Rule) → IsRule rules n r → ⊥
+
 -- the names of a rule's pattern, or none where no rule has the number
 abbrev pub NamesOf : List Rule → ℕ → Option (List Slot) → Type 0
 NamesOf rules n (Some ns) = (r : Rule) × IsRule rules n r × (ns ≡ names r.pattern)
-NamesOf rules n None = (r : Rule) → IsRule rules n r → ⊥
+NamesOf rules n None = NoneHas rules n
+
+-- the element at a place of a text writes a pattern, or a template
+pub record WritesAt (text : List ℕ) (place : ℕ) (p : Pattern) : Type 0 where
+  pub stands : Stands (run_at place (text_tree text))
+  pub writes : first_of (run_at place (text_tree text)) ≡ written p
+
+-- a rule with these places: it is lawful, and the elements there write its pattern and its template
+pub record LiesAt (q : Rule) (r : PlacedRule) : Type 0 where
+  pub lawful : LawfulRule q
+  pub pattern : WritesAt r.text.text.now r.pattern q.pattern
+  pub template : WritesAt r.text.text.now r.template q.template
+
+-- where a rule lies, or none where no rule has the number
+abbrev pub RuleHeld : List Rule → ℕ → Option PlacedRule → Type 0
+RuleHeld rules n (Some r) = (q : Rule) × IsRule rules n q × LiesAt q r
+RuleHeld rules n None = NoneHas rules n

@@ -1,9 +1,11 @@
 //! Books: rules that have been taken.
-ghost use Rattle.books.specs.Lawful.{LawfulBook};
-ghost use Rattle.books.specs.Meant.{NamesOf};
+ghost use Rattle.rules.specs.Lawful.{LawfulBook};
+ghost use Rattle.books.specs.Checks.{RuleStands};
+ghost use Rattle.books.specs.Meant.{NamesOf, RuleHeld};
 
 use crate::checking::check_pattern;
 use crate::names::Names;
+use crate::places::PlacedRule;
 use holder::holding::Holder;
 use std::marker::Model;
 use texts::record::TextRecord;
@@ -41,9 +43,33 @@ impl<'a> Book<'a> {
         ensures names { NamesOf self.now rule result }
         ensures lawful { LawfulBook self.now }
     {
+        let (text, place) = self.place_of(rule)?;
+        let pattern = text.first_in(place)?;
+        check_pattern(text, pattern).ok()
+    }
+
+    /// Where the pattern and the template of a rule lie, or none where no rule has the number.
+    pub fn rule(&self, rule: usize) -> Option<PlacedRule<'a>>
+        ensures held { RuleHeld self.now rule result }
+        ensures lawful { LawfulBook self.now }
+    {
+        let (text, place) = self.place_of(rule)?;
+        let pattern = text.first_in(place)?;
+        let template = text.next_after(pattern)?;
+        Some(PlacedRule {
+            text,
+            pattern,
+            template,
+        })
+    }
+
+    // The text, and where a rule stands in it, or none where no rule has the number.
+    fn place_of(&self, rule: usize) -> Option<(TextRecord<'a>, u32)>
+        ensures stands { RuleStands self.now rule result }
+        ensures lawful { LawfulBook self.now }
+    {
         let taken = &self.places[..self.taken];
         let place = *taken.get(rule.checked_sub(1)?)?;
-        let pattern = self.record.first_in(place)?;
-        check_pattern(self.record, pattern).ok()
+        Some((self.record, place))
     }
 }

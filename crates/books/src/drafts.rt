@@ -3,7 +3,7 @@ ghost use Rattle.std.specs.Prelude.{◌≡◌, codes};
 ghost use Rattle.sexp.specs.Reading.{verdict};
 ghost use Rattle.books.specs.Drafts.{begun, beginning, begun_or, take_verdict, numbered, taking};
 ghost use Rattle.books.specs.Drafts.{skip_answer, skipped, TakeRefusedAsListed, TakesWhatIsWritten};
-ghost use Rattle.books.specs.Lawful.{LawfulBook};
+ghost use Rattle.rules.specs.Lawful.{LawfulBook};
 ghost use Rattle.cases.specs.Cases.{CasesHold};
 ghost use Rattle.rules.specs.Complete.{KeysTellFits, CompleteListExists, AtMostOneComplete};
 

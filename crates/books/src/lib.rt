@@ -5,4 +5,5 @@ pub mod books;
 mod checking;
 pub mod drafts;
 pub mod names;
+pub mod places;
 mod sides;
