@@ -1,0 +1,4 @@
+pub mod States
+pub mod Least
+pub mod Covering
+pub mod Books

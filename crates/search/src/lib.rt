@@ -1,0 +1,2 @@
+//! The search for the least fit behind a key, as states: definitions and laws.
+#![tactic(auto)]
