@@ -1,0 +1,17 @@
+pub mod Stacking
+pub mod Cursors
+pub mod Passing
+pub mod Sameness
+pub mod Entries
+pub mod Names
+pub mod Leading
+pub mod Laying
+pub mod Closing
+pub mod Naming
+pub mod Numbers
+pub mod Retreating
+pub mod Backing
+pub mod Seeking
+pub mod Finding
+pub mod Rules
+pub mod Asking

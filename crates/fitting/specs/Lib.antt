@@ -1,0 +1,13 @@
+pub mod Stacked
+pub mod Stacks
+pub mod Marks
+pub mod Entries
+pub mod Occurs
+pub mod Cursors
+pub mod Trails
+pub mod Sound
+pub mod Searches
+pub mod Leads
+pub mod Moves
+pub mod Finding
+pub mod Keys
