@@ -1,4 +1,5 @@
 //! Books: rules that have been taken.
+ghost use Rattle.std.specs.Prelude.{◌≡◌, length};
 ghost use Rattle.rules.specs.Lawful.{LawfulBook};
 ghost use Rattle.books.specs.Checks.{RuleStands};
 ghost use Rattle.books.specs.Meant.{NamesOf, RuleHeld};
@@ -38,6 +39,14 @@ impl<'a> Model for Book<'a> {
 }
 
 impl<'a> Book<'a> {
+    /// The number of its rules.
+    pub fn len(&self) -> usize
+        ensures len { result ≡ length self.now }
+        ensures lawful { LawfulBook self.now }
+    {
+        self.taken
+    }
+
     /// The names of the pattern of a rule, or none where no rule has the number.
     pub fn names(&self, rule: usize) -> Option<Names<'a>>
         ensures names { NamesOf self.now rule result }

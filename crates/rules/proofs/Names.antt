@@ -23,6 +23,11 @@ in_without name (x ∷ ss) s i = go (bytes_eq name x.name) refl (in_without name
     go true e ih j = let t = ih j in (inr t.0, t.1)
     go false e ih j = ⊎_elim (λ q. (inl q, subst (λ (y : Slot). bytes_eq name y.name ≡ false) (sym q) e)) (λ k. let t = ih k in (inr t.0, t.1)) j
 
+-- the first occurrences are some of these names
+pub in_firsts : (ss : List Slot) (s : Slot) → In s (firsts ss) → In s ss
+in_firsts [] s i = absurd i
+in_firsts (x ∷ ss) s i = ⊎_elim inl (λ j. inr (in_firsts ss s (in_without x.name (firsts ss) s j).0)) i
+
 -- leaving a name out twice is leaving it out once, and of two names it does not matter which goes first
 without_twice : (n : List ℕ) (ss : List Slot) → without n (without n ss) ≡ without n ss
 without_twice n [] = refl

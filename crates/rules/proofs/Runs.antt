@@ -2,7 +2,7 @@
 use Rattle.std.proofs.Common.{◌≡◌, ℕ, zero, suc, ◌+◌, ◌≤◌, Bool, true, false, ◌&&◌, Some, None, Option, Decides, bytes_eq, true≢false, sym, refl, ap, ap₂, ◌∙◌, arith}
 use Rattle.std.proofs.lemmas.Slice.Eq.{bytes_eq-Decides}
 use Rattle.std.proofs.lemmas.Bool.Decides.{Decides-like, Decides-and}
-use Rattle.sexp.specs.Elements.{Atom, octets, Elements, none, atom, list, ◌then◌, Record}
+use Rattle.sexp.specs.Elements.{Atom, octets, Elements, none, atom, list, ◌then◌, Record, count}
 use Rattle.rules.specs.Bindings.{width}
 
 -- equal runs have equal parts, and runs of different beginnings are not equal
@@ -25,6 +25,12 @@ pub width-then : (es fs : Elements) → width (es then fs) ≡ width es + width 
 width-then none fs = omega arith
 width-then (atom a es) fs = omega (arith, width-then es fs)
 width-then (list inner es) fs = omega (arith, width-then es fs)
+
+-- a run has no fewer elements than its width
+pub width_count : (es : Elements) → width es ≤ count es
+width_count none = omega arith
+width_count (atom a es) = omega (arith, width_count es)
+width_count (list inner es) = omega (arith, width_count es)
 
 -- fronts of equal width are equal, and so are the rests
 pub then_same : (es fs x y : Elements) → width es ≡ width fs → es then x ≡ fs then y → (es ≡ fs) × (x ≡ y)

@@ -1,6 +1,6 @@
 -- What writes a pattern is read as that, and elements whose atoms have signs are what writes the pattern read of them. Assumes nothing.
-use Rattle.std.proofs.Common.{◌≡◌, ℕ, List, [], ◌∷◌, inl, inr, refl, ap, ap₂, ◌∙◌}
-use Rattle.sexp.specs.Elements.{octets, Elements, none, atom, list}
+use Rattle.std.proofs.Common.{◌≡◌, ℕ, List, [], ◌∷◌, inl, inr, sym, refl, ap, ap₂, ◌∙◌}
+use Rattle.sexp.specs.Elements.{octets, Elements, none, atom, list, ◌then◌}
 use Rattle.rules.specs.declared.signs.Sign.{Sign}
 use Rattle.rules.specs.declared.signs.Sign.TheVariants.{Variable, Segment}
 use Rattle.rules.specs.Patterns.{Pattern, done, constant, slot, group, sign_octet, written, read_atom, pattern_of}
@@ -33,3 +33,15 @@ pub written-pattern_of : (es : Elements) → Signed es → written (pattern_of e
 written-pattern_of none h = refl
 written-pattern_of (atom (octets os) es) h = written-read_atom os (pattern_of es) h.0 ∙ ap (atom (octets os)) (written-pattern_of es h.1)
 written-pattern_of (list inner es) h = ap₂ list (written-pattern_of inner h.0) (written-pattern_of es h.1)
+
+-- octets with a sign write something
+pub sign_writes : (os : List ℕ) → HasSign os → ((p : Pattern) → read_atom os p ≡ p) → ⊥
+sign_writes os signed n =
+    let no : none ≡ atom (octets os) none = ap written (sym (n done)) ∙ written-pattern_of (atom (octets os) none) (signed, tt) in
+    cc
+
+-- what has signs in the whole has them in each part
+pub signed_then : (x y : Elements) → Signed (x then y) → Signed x × Signed y
+signed_then none y h = (tt, h)
+signed_then (atom (octets os) x) y h = let t = signed_then x y h.1 in ((h.0, t.0), t.1)
+signed_then (list inner x) y h = let t = signed_then x y h.1 in ((h.0, t.0), t.1)

@@ -6,3 +6,5 @@ pub mod Wanting
 pub mod Dying
 pub mod Results
 pub mod Asking
+pub mod Telling
+pub mod Counting

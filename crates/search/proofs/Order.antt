@@ -46,20 +46,18 @@ beyond_longer c m h = go c.left h
     go (atom a es) g = grown (c.run then atom a none) (atom a none) refl refl g
     go (list inner es) g = grown (c.run then list inner none) (list inner none) refl refl g
 
+-- bindings chained to a choice point have its run's length behind those bound before it
+chained_lengths : (b : List Binding) (c : Choice) (cs : List Choice) (h : Chained b (c ∷ cs)) → lengths b ≡ lengths c.bound ++ (width c.run ∷ lengths h.0.0)
+chained_lengths b c cs h = ap lengths h.0.1 ∙ lengths-append c.bound (binding Segment c.name c.run ∷ h.0.0)
+
 -- of chained bindings, what is met later is longer
 pub later_longer : (b : List Binding) (cs : List Choice) (m : List Binding) → Chained b cs → Later cs m → Smaller (lengths b) (lengths m)
 later_longer b [] m h l = absurd l
 later_longer b (c ∷ cs) m h (inl y) =
     let t = beyond_longer c m y in
-    rw (chain, t.3) (smaller_behind (lengths c.bound) (here t.2))
-  where
-    chain : lengths b ≡ lengths c.bound ++ (width c.run ∷ lengths h.0.0)
-    chain = ap lengths h.0.1 ∙ lengths-append c.bound (binding Segment c.name c.run ∷ h.0.0)
+    rw (chained_lengths b c cs h, t.3) (smaller_behind (lengths c.bound) (here t.2))
 later_longer b (c ∷ cs) m h (inr l) =
-    rw chain (smaller_longer (later_longer c.bound cs m h.1 l) (width c.run ∷ lengths h.0.0))
-  where
-    chain : lengths b ≡ lengths c.bound ++ (width c.run ∷ lengths h.0.0)
-    chain = ap lengths h.0.1 ∙ lengths-append c.bound (binding Segment c.name c.run ∷ h.0.0)
+    rw (chained_lengths b c cs h) (smaller_longer (later_longer c.bound cs m h.1 l) (width c.run ∷ lengths h.0.0))
 
 -- so is its key, where there are at most four segments
 pub later_four : (b : List Binding) (cs : List Choice) (m : List Binding) → Chained b cs → Later cs m → length (lengths b) ≤ 4 → Smaller (four (lengths b)) (four (lengths m))
