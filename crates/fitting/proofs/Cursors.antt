@@ -101,6 +101,12 @@ count_less m p next s e = omega (arith, count_next m p next s e, some_elements (
 pub count_first : (m : Meaning) (p : ℕ) (first : Option ℕ) → IsList (run_at p m.tree) → first ≡ place_of (inside (run_at p m.tree)) → count (first_of (run_at p m.tree)) ≡ suc (count (elements_from m.tree first))
 count_first m p first s e = ap count (first_elements m p first s e) ∙ omega arith
 
+-- the front of two runs, one behind the other
+pub front-then : (x y : Elements) → front (width x) (x then y) ≡ x
+front-then none y = refl
+front-then (atom a x) y = ap (atom a) (front-then x y)
+front-then (list inner x) y = ap (list inner) (front-then x y)
+
 -- a run is its front and then its back
 pub front_then_back : (n : ℕ) (es : Elements) → front n es then back n es ≡ es
 front_then_back zero es = refl

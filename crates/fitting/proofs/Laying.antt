@@ -1,20 +1,21 @@
 -- What each step of a search comes to. Assumes nothing.
-use Rattle.std.proofs.Common.{◌≡◌, ◌≢◌, ℕ, zero, suc, ◌+◌, ◌*◌, ◌<◌, ◌≤◌, Bool, true, false, eqb, List, [], ◌∷◌, ◌++◌, length, drop, get_or, Option, Some, None, inl, inr, ◌⊎◌, ⊎_elim, append-nil, refl, sym, ap, ap₂, ◌∙◌, subst, arith}
-use Rattle.std.proofs.lemmas.Bool.{eq-eqb, ne_eqb}
+use Rattle.std.proofs.Common.{◌≡◌, ◌≢◌, ℕ, suc, ◌+◌, ◌*◌, ◌<◌, ◌≤◌, Bool, true, false, eqb, List, [], ◌∷◌, ◌++◌, length, drop, get_or, Option, Some, None, ⊎_elim, append-nil, refl, sym, ap, ap₂, ◌∙◌, subst, arith}
+use Rattle.std.proofs.lemmas.Bool.{eq-eqb, ne_eqb, cases_eq}
 use Rattle.std.proofs.lemmas.Slice.Eq.{bytes_eq-Decides}
 use Rattle.std.specs.Option.{unwrap_or}
 use Rattle.std.proofs.lemmas.List.{length-append, take-append-drop, take_more}
-use Rattle.sexp.specs.Elements.{octets, Elements, none, atom, list, ◌then◌, Record, count}
+use Rattle.sexp.specs.Elements.{octets, Elements, none, atom, ◌then◌, Record, count}
 use Rattle.sexp.proofs.Runs.{then-none}
 use Rattle.holder.specs.Placed.{Placed, nothing, atom_at, list_at as list_placed, erase, Meaning, run_at, front as place_of, inside, behind, octets_of, Stands, IsList, IsAtom}
 use Rattle.holder.specs.Walks.{first_of}
 use Rattle.rules.specs.declared.signs.Sign.{Sign}
 use Rattle.rules.specs.declared.signs.Sign.TheVariants.{Variable as VariableSign, Segment as SegmentSign}
-use Rattle.rules.specs.Patterns.{Pattern, done, constant, slot, group, pattern_of, read_atom, sign_octet, quote, names, segments, slots, firsts}
+use Rattle.rules.specs.Patterns.{Pattern, constant, slot, group, pattern_of, read_atom, sign_octet, quote, names, segments, slots, firsts}
 use Rattle.rules.specs.Bindings.{Binding, binding, lengths, width}
 use Rattle.rules.specs.Goals.{Goal, is_bound}
 use Rattle.rules.specs.Signs.{HasSign, Signed}
 use Rattle.rules.proofs.Enumerating.{lengths-append}
+use Rattle.rules.proofs.Writing.{sign_writes, signed_then}
 use Rattle.search.specs.States.{choice, state}
 use Rattle.search.specs.Covering.{Aim, past, along, Tight, Covers, Dead}
 use Rattle.search.proofs.Covering.{covers-done, covers-constant, covers-group, covers-repeated, covers-variable, covers-segment}
@@ -22,6 +23,7 @@ use Rattle.search.proofs.Dying.{dead-constant_none, dead-constant_list, dead-con
 use Rattle.search.proofs.Wanting.{covers_next, few_bound}
 use Rattle.texts.specs.Label.{text_tree}
 use Rattle.texts.specs.Meant.{meant}
+use Rattle.books.proofs.LawfulRuns.{first_record}
 use Rattle.fitting.specs.declared.marks.Laid.TheVariants.{List as ListLaid, Variable as VariableLaid, Segment as SegmentLaidAs}
 use Rattle.fitting.specs.declared.marks.Mark.{Mark}
 use Rattle.fitting.specs.declared.searching.Search.{Search}
@@ -36,7 +38,6 @@ use Rattle.fitting.specs.Sound.{IsListAt, Named, left_behind, left_around, Few, 
 use Rattle.fitting.specs.Searches.{TrailSound}
 use Rattle.fitting.specs.Leads.{PlacedGoal, placed_behind, placed_around, placed_at, Leads}
 use Rattle.fitting.specs.Moves.{state_of, LeadsAt, LeadsTo, Serves, steps_around, steps_behind, steps_left, Comes, Steps, Reads, IsNew, IsKnown, mark_at, Marks, GoesOn}
-use Rattle.books.proofs.LawfulRuns.{first_record}
 use Rattle.fitting.proofs.Cursors.{first_then, first_of_list, first_of_atom, next_run, next_lies, next_elements, first_run, first_lies, first_elements, count_next, count_less, count_first, front_then_back, width-front, width_record, passed_back}
 use Rattle.fitting.proofs.Entries.{list_below, Keeps, same, more, keeps_list, keeps_length, keeps_goals, keeps_placed, keeps_left, keeps_steps}
 use Rattle.fitting.proofs.Leading.{leads_like, leads_more, leads-done, leads-constant, leads-group, leads-repeated, leads-new}
@@ -61,12 +62,6 @@ module _ {H : Type 0} (rec : Placed) (from : Search H) where
 reads_slot : (sign : Sign) (name : List ℕ) (p : Pattern) → read_atom (sign_octet sign ∷ name) p ≡ slot sign name p
 reads_slot VariableSign name p = refl
 reads_slot SegmentSign name p = refl
-
--- octets with a sign write something
-sign_writes : (os : List ℕ) → HasSign os → ((p : Pattern) → read_atom os p ≡ p) → ⊥
-sign_writes [] h n = h
-sign_writes (o ∷ os) (inl e) n = let f : constant (octets os) done ≡ done = rw e at (n done) in cc
-sign_writes (o ∷ os) (inr (sign, e)) n = let f : slot sign os done ≡ done = sym (reads_slot sign os done) ∙ rw e at (n done) in cc
 
 -- behind a root all is laid
 abbrev pub step_on : Bool → Step
@@ -94,24 +89,10 @@ element_split : (root : Bool) (m : Meaning) (p : ℕ) → Stands (run_at p m.tre
 element_split true m p s = sym (then-none (first_of (run_at p m.tree)))
 element_split false m p s = next_elements m p (place_of (behind (run_at p m.tree))) s refl
 
-count_some : (r : Placed) → Stands r → 1 ≤ count (first_of r)
-count_some nothing s = absurd s
-count_some (atom_at p a es) s = omega arith
-count_some (list_placed p inner es) s = omega arith
-
-signed_then : (x y : Elements) → Signed (x then y) → Signed x × Signed y
-signed_then none y h = (tt, h)
-signed_then (atom (octets os) x) y h = let t = signed_then x y h.1 in ((h.0, t.0), t.1)
-signed_then (list inner x) y h = let t = signed_then x y h.1 in ((h.0, t.0), t.1)
-
 front_one : (r : Placed) → Stands r → front 1 (erase r) ≡ first_of r
 front_one nothing s = absurd s
 front_one (atom_at p a es) s = refl
 front_one (list_placed p inner es) s = refl
-
-zero_or_not : (n : ℕ) → (n ≡ 0) ⊎ (n ≢ 0)
-zero_or_not zero = inl refl
-zero_or_not (suc n) = inr (λ e. omega arith)
 
 -- a search in front of an element of the pattern
 module _ {H : Type 0} (m : Meaning) (from : Search H) (ts : TrailSound m.tree from) (cs : CursorSound (text_tree from.text.text.now) m.tree from.cursor from.trail.entries) (p : ℕ) (at : from.cursor.pattern ≡ Some p) where
@@ -143,10 +124,10 @@ module _ {H : Type 0} (m : Meaning) (from : Search H) (ts : TrailSound m.tree fr
   bindings = bound_in pat m.tree trail
 
   pub stands : Stands (run_at p pat)
-  stands = ⊎_elim (λ z. rw at at (cs.0 z).pattern) (λ n. rw at at (cs.1 n).pattern) (zero_or_not around)
+  stands = ⊎_elim (λ z. rw at at (cs.0 z).pattern) (λ n. rw at at (cs.1 n).pattern) (cases_eq around 0)
 
   pub element_lies : Lies m.tree from.cursor.element
-  element_lies = ⊎_elim (λ z. lies from.cursor.element (cs.0 z).element) (λ n. (cs.1 n).element) (zero_or_not around)
+  element_lies = ⊎_elim (λ z. lies from.cursor.element (cs.0 z).element) (λ n. (cs.1 n).element) (cases_eq around 0)
     where
       lies : (x : Option ℕ) → Stands (run_from m.tree x) → Lies m.tree x
       lies None s = tt
@@ -165,7 +146,7 @@ module _ {H : Type 0} (m : Meaning) (from : Search H) (ts : TrailSound m.tree fr
   signed_first = ⊎_elim
       (λ z. rw at at (cs.0 z).signed)
       (λ n. let h : Signed (elements_from pat (Some p)) = rw at at (cs.1 n).signed in (signed_then (first_of (run_at p pat)) (elements_from pat next) (subst Signed (next_elements text p next stands refl) h)).0)
-      (zero_or_not around)
+      (cases_eq around 0)
 
   goals_split : (b : Bool) → root ≡ b → goals_at pat m.tree from.cursor trail ≡ (pattern_of (element_of b pat from.cursor.pattern), element_of b m.tree from.cursor.element) ∷ others b (goals_around pat m.tree around trail)
   goals_split true e = rw (e, goals_at) refl
@@ -201,7 +182,7 @@ module _ {H : Type 0} (m : Meaning) (from : Search H) (ts : TrailSound m.tree fr
   few_here = ⊎_elim
       (λ z. few_goals (sym (goals_split true (at_root z))) (rw (cs.0 z).nothing (record { pattern = pattern_of (first_of (run_from pat from.cursor.pattern)); few = (cs.0 z).few; named = ap firsts (append-nil (slots (pattern_of (first_of (run_from pat from.cursor.pattern))))) })))
       (λ n. few_goals (sym (goals_split false (at_list n))) (cs.1 n).few)
-      (zero_or_not around)
+      (cases_eq around 0)
 
   signed_next : around ≢ 0 → Signed (erase (behind (run_at p pat)))
   signed_next n =
@@ -209,10 +190,10 @@ module _ {H : Type 0} (m : Meaning) (from : Search H) (ts : TrailSound m.tree fr
       (signed_then (first_of (run_at p pat)) (erase (behind (run_at p pat))) (subst Signed (first_then (run_at p pat)) h)).1
 
   low : around ≤ length trail
-  low = ⊎_elim (λ z. omega arith) (λ n. list_below around trail (cs.1 n).around) (zero_or_not around)
+  low = ⊎_elim (λ z. omega arith) (λ n. list_below around trail (cs.1 n).around) (cases_eq around 0)
 
   list_here : IsListAt around trail
-  list_here = ⊎_elim (λ z. rw ((cs.0 z).nothing) z) (λ n. (cs.1 n).around) (zero_or_not around)
+  list_here = ⊎_elim (λ z. rw ((cs.0 z).nothing) z) (λ n. (cs.1 n).around) (cases_eq around 0)
 
   -- behind the element, at some element of the record, with a trail that stays or has an entry more
   module _ (trailed : Stacked Entry) (segs : ℕ) (to : Option ℕ) where
@@ -720,7 +701,7 @@ module _ {H : Type 0} (m : Meaning) (from : Search H) (ts : TrailSound m.tree fr
           pattern = first_lies text p first_pattern l refl;
           element = first_lies m q first_record_place held refl;
           signed = (subst Signed (first_elements text p first_pattern l refl) signed_first).0;
-          room = rw left_entered (⊎_elim room_at_root room_in_list (zero_or_not around));
+          room = rw left_entered (⊎_elim room_at_root room_in_list (cases_eq around 0));
           few = few_goals (state_entered ∙ rw (not_root, goals_at) refl) (few_inside bindings inside_pattern rest_pattern (first_of (run_at q m.tree) then rest_record q) (erase (inside (run_at q m.tree))) (rest_record q) behind_goals (few_goals (group_goal (first_of (run_at q m.tree)) refl) few_here));
         }
 
@@ -753,7 +734,7 @@ module _ {H : Type 0} (m : Meaning) (from : Search H) (ts : TrailSound m.tree fr
             agree = ts.agree;
           };
           cursor = λ e. ((λ z. absurd (omega (arith, z))), (λ n. list_entered));
-          fewer = λ e. ⊎_elim fewer_at_root fewer_in_list (zero_or_not around);
+          fewer = λ e. ⊎_elim fewer_at_root fewer_in_list (cases_eq around 0);
           more = omega arith;
           comes = λ p₁ e aim four serves h. subst
               (λ gs. Covers p₁ e aim (state bindings gs (choices_in pat m.tree trail)))

@@ -1,14 +1,14 @@
 -- Where names occur first, one step of a pattern at a time: each step keeps to what is said of those laid and those to come. Assumes nothing.
-use Rattle.std.proofs.Common.{◌≡◌, ◌≢◌, ℕ, ◌<◌, Bool, true, false, ◌⊎◌, inl, inr, ⊎_elim, List, [], ◌∷◌, ◌++◌, append_assoc, bytes_eq, true≢false, refl, sym, ap, ◌∙◌, subst}
+use Rattle.std.proofs.Common.{◌≡◌, ◌≢◌, ℕ, ◌<◌, Bool, true, false, inl, inr, ⊎_elim, List, [], ◌∷◌, ◌++◌, append_assoc, bytes_eq, true≢false, refl, sym, ap, ◌∙◌, subst}
 use Rattle.std.proofs.lemmas.Slice.Eq.{bytes_eq-Decides}
 use Rattle.sexp.specs.Elements.{Atom, Elements, none, atom, list, ◌then◌}
 use Rattle.holder.specs.Placed.{Placed, run_at, inside, behind}
 use Rattle.rules.specs.declared.signs.Sign.{Sign}
-use Rattle.rules.specs.Complete.{In}
 use Rattle.rules.specs.Patterns.{Pattern, done, constant, slot, group, Slot, slots}
 use Rattle.rules.specs.Bindings.{Binding, binding, value, Single, width}
 use Rattle.rules.specs.Goals.{Goal, is_bound, Completes}
 use Rattle.rules.proofs.Names.{value_bound, value_new, value_first}
+use Rattle.rules.proofs.Orders.{in_either}
 use Rattle.rules.proofs.Completing.{completes-done, completes-constant, completes-group, completes-repeated, completes-new}
 use Rattle.fitting.specs.declared.marks.Laid.TheVariants.{List as ListLaid}
 use Rattle.fitting.specs.Entries.{Entry}
@@ -31,12 +31,6 @@ unbound_before name (x ∷ b) y h = go (bytes_eq name x.slot.name) refl (unbound
     go : (t : Bool) → bytes_eq name x.slot.name ≡ t → (is_bound name (b ++ (y ∷ [])) ≡ false → (is_bound name b ≡ false) × (y.slot.name ≢ name)) → (is_bound name (x ∷ b) ≡ false) × (y.slot.name ≢ name)
     go true e ih = absurd (true≢false (rw e at h))
     go false e ih = let t = ih (rw e at h) in (rw e t.0, t.1)
-
--- one of the names of two runs is one of the first's or of the second's
-in_either : (s : Slot) (xs ys : List Slot) → In s (xs ++ ys) → In s xs ⊎ In s ys
-in_either s [] ys i = inr i
-in_either s (y ∷ xs) ys (inl e) = inl (inl e)
-in_either s (y ∷ xs) ys (inr i) = ⊎_elim (λ j. inl (inr j)) (λ j. inr j) (in_either s xs ys i)
 
 -- what stands behind the first element of a pattern, seen from that element
 module _ (m : List Binding) (name : List ℕ) (ps : List PlacedGoal) (r x : Placed) where

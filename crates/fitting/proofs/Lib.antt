@@ -15,3 +15,13 @@ pub mod Seeking
 pub mod Finding
 pub mod Rules
 pub mod Asking
+pub mod Loops
+pub mod Putting
+pub mod Equal
+pub mod Telling
+pub mod Running
+pub mod Filled
+pub mod Following
+pub mod Standing
+pub mod Showing
+pub mod Handing

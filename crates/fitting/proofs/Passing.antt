@@ -6,9 +6,9 @@ use Rattle.holder.specs.Placed.{Placed, Meaning, run_at, front as place_of, behi
 use Rattle.holder.specs.Walks.{first_of}
 use Rattle.rules.specs.Bindings.{width}
 use Rattle.rules.proofs.Runs.{width-then, then_same, then_cancel}
+use Rattle.books.proofs.LawfulRuns.{first_record, stands_width}
 use Rattle.fitting.specs.Occurs.{behind_all}
 use Rattle.fitting.specs.Cursors.{run_from, elements_from, Lies, front, back, Passes, PassesRun}
-use Rattle.books.proofs.LawfulRuns.{first_record, stands_width}
 use Rattle.fitting.proofs.Cursors.{passed_back, behind_all_more, next_run, next_lies, next_elements, width_record, width_next, width-front, width-back, back_more, front_more, front_less}
 
 -- so many elements are passed, and behind them is nothing

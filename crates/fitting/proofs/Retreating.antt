@@ -2,7 +2,7 @@
 use Rattle.std.proofs.Common.{◌≡◌, ◌≢◌, ℕ, zero, suc, ◌+◌, ◌-◌, ◌<◌, ◌≤◌, true, List, [], ◌∷◌, ◌++◌, length, get_or, set, replicate, Option, Some, length-append, refl, sym, ap, ap₂, ◌∙◌, subst, arith, add-one}
 use Rattle.std.proofs.lemmas.Bool.{ne_eqb}
 use borrow.Rule.Slice.PartMut.{mid_of, put_mid}
-use Rattle.sexp.specs.Elements.{Elements, none, atom, list, ◌then◌, count}
+use Rattle.sexp.specs.Elements.{Elements, ◌then◌, count}
 use Rattle.holder.specs.Placed.{Placed, erase, Meaning, run_at, front as place_of, behind, Stands}
 use Rattle.holder.specs.Walks.{first_of}
 use Rattle.holder.proofs.Walk.{atom_stands, limited}
@@ -12,12 +12,14 @@ use Rattle.rules.specs.Patterns.{Pattern, Slot, pattern_of}
 use Rattle.rules.specs.Bindings.{Binding, binding, bound, width, lengths}
 use Rattle.rules.specs.Goals.{Goal, unbound}
 use Rattle.rules.proofs.Enumerating.{lengths-append}
+use Rattle.rules.proofs.Runs.{width_count}
 use Rattle.search.specs.States.{choice, state}
 use Rattle.search.specs.Least.{Position}
 use Rattle.search.specs.Covering.{past, Covers, CoversLater}
 use Rattle.search.proofs.Covering.{again_one}
 use Rattle.texts.specs.Label.{text_tree}
 use Rattle.texts.specs.Meant.{meant}
+use Rattle.books.proofs.LawfulRuns.{first_record}
 use Rattle.fitting.specs.declared.marks.Laid.TheVariants.{Segment}
 use Rattle.fitting.specs.declared.marks.Mark.{Mark}
 use Rattle.fitting.specs.declared.searching.Cursor.{Cursor}
@@ -28,7 +30,6 @@ use Rattle.fitting.specs.Trails.{name_at, laid_at, pattern_behind, bound_in, goa
 use Rattle.fitting.specs.Sound.{Few, IsListAt, SegmentLaid, IsLaid, EntrySound, AtList}
 use Rattle.fitting.specs.Searches.{TrailSound}
 use Rattle.fitting.specs.Moves.{Retreats}
-use Rattle.books.proofs.LawfulRuns.{first_record}
 use Rattle.fitting.proofs.Cursors.{passed_back, next_run, next_lies, next_elements, width-front, front_more}
 use Rattle.fitting.proofs.Passing.{passes_more}
 use Rattle.fitting.proofs.Names.{few_like}
@@ -75,11 +76,6 @@ few_segment b sign name x y q es fs gs f = few_like (ap₂ ◌++◌ (bound_like 
 -- a segment's entry with one element more
 abbrev pub with_one : Mark → Option ℕ → ℕ → Entry
 with_one m after first = (record { laid = Segment; pattern = m.pattern; around = m.around; length = m.length + 1; behind = after }, first)
-
-width_count : (es : Elements) → width es ≤ count es
-width_count none = omega arith
-width_count (atom a es) = omega (arith, width_count es)
-width_count (list inner es) = omega (arith, width_count es)
 
 module _ (pat rec : Placed) where
   -- an entry of a segment, and its length

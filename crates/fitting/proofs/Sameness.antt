@@ -6,8 +6,8 @@ use Rattle.sexp.specs.Elements.{none, list, ◌then◌, count}
 use Rattle.holder.specs.Placed.{Placed, Meaning, run_at, front as place_of, inside, behind, Stands, IsList}
 use Rattle.holder.specs.Walks.{first_of}
 use Rattle.rules.proofs.Runs.{then_same, list_same}
-use Rattle.fitting.specs.Cursors.{elements_from, Lies}
 use Rattle.books.proofs.LawfulRuns.{first_record}
+use Rattle.fitting.specs.Cursors.{elements_from, Lies}
 use Rattle.fitting.proofs.Cursors.{width_record, next_lies, next_elements, count_next, first_lies, first_elements, count_first}
 
 -- octets that are the same as far as both go

@@ -11,3 +11,8 @@ pub mod Leads
 pub mod Moves
 pub mod Finding
 pub mod Keys
+pub mod Pieces
+pub mod Jobs
+pub mod Filling
+pub mod Law
+pub mod Calls

@@ -2,8 +2,12 @@
 #![tactic(auto)]
 
 mod comparing;
+mod filling;
+pub mod jobs;
 mod keys;
 pub mod marks;
+mod pieces;
+pub mod runs;
 mod searching;
 mod stacks;
 mod trails;

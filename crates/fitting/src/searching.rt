@@ -52,8 +52,8 @@ enum Step {
 /// A search under way.
 #[derive(Drop)]
 pub(crate) struct Search<'s, 'm, 'p, H: Holder> {
-    text: TextRecord<'s>,
-    record: &'s H,
+    pub(crate) text: TextRecord<'s>,
+    pub(crate) record: &'s H,
     trail: Trail<'m, 'p>,
     cursor: Cursor,
     // The lengths of the segments laid, and what the others begin with.
