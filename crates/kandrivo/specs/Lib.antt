@@ -1,1 +1,4 @@
 pub mod Lines
+pub mod Fits
+pub mod Picks
+pub mod Words
