@@ -6,6 +6,7 @@ use Refusal::{
     UnboundName, UnknownSign, WholeSegment,
 };
 use Text::{Repeated, Written};
+use books::books::Book;
 use books::drafts::Draft;
 use sexp::refusals::Refusal;
 use std::{fmt, io};
@@ -248,18 +249,33 @@ static CASES: [(Text, usize, Refusal); 52] = [
     ),
 ];
 
-// Takes the rules of a text until one is refused.
-fn take_rules(text: &[u8]) -> Taken {
-    let mut draft = Draft::new();
+// Takes the rules of a draft until one is refused.
+fn take_all(draft: &mut Draft<'_>) -> Taken {
     let mut rules = 0;
-    if let Err(refusal) = draft.begin(text) {
-        return Taken { rules, refusal };
-    }
     loop {
         match draft.take() {
             Ok(number) => rules = number,
             Err(refusal) => return Taken { rules, refusal },
         }
+    }
+}
+
+// Takes the rules of a text.
+fn take_rules(text: &[u8]) -> Taken {
+    let mut draft = Draft::new();
+    match draft.begin(text) {
+        Ok(()) => take_all(&mut draft),
+        Err(refusal) => Taken { rules: 0, refusal },
+    }
+}
+
+/// The book of a text, if all its rules are taken.
+pub(crate) fn book_of(text: &[u8]) -> Result<Book<'_>, Refusal> {
+    let mut draft = Draft::new();
+    draft.begin(text)?;
+    match take_all(&mut draft).refusal {
+        NoRule => Ok(draft.close()),
+        refusal => Err(refusal),
     }
 }
 
