@@ -1,0 +1,1 @@
+(4:tank1:9(8:setpoint4:1920)(5:holds(3:lag3:7206:minute)(4:rise1:23:day)(4:rest4:14406:minute)(4:cool3:3606:minute))(5:probe(4:wort(5:curve4:19054:19124:19204:19204:19204:19314:19314:1918))))
