@@ -1,4 +1,5 @@
 pub mod Lines
+pub mod Books
 pub mod Fits
 pub mod Picks
 pub mod Words

@@ -1,8 +1,5 @@
 //! The book of a file's text, whose rules must all be taken.
-ghost use Rattle.std.specs.Prelude.{◌≡◌, ◌+◌, length, IfOk, IfErr};
-ghost use Rattle.holder.specs.Placed.{erase};
-ghost use Rattle.rules.specs.Bindings.{width};
-ghost use Rattle.books.specs.Drafts.{TakeRefused};
+ghost use Rattle.kandrivo.specs.Books.{TakesAll, IsBook};
 
 use crate::files::read_text;
 use books::books::Book;
@@ -12,9 +9,7 @@ use std::io;
 
 // Takes all rules of a draft, or tells why one is refused: a rule passed by would be fits lost.
 fn take_all(draft: &mut Draft<'_>) -> Result<(), Refusal>
-    ensures all { let all = length draft.old.taken + width (erase draft.old.left) in
-        IfOk result (λ _. length draft.new.taken ≡ all) }
-    ensures refused { IfErr result (TakeRefused draft.new) }
+    ensures { TakesAll draft.old draft.new result }
 {
     loop {
         match draft.take() {
@@ -23,6 +18,16 @@ fn take_all(draft: &mut Draft<'_>) -> Result<(), Refusal>
             Err(refusal) => return Err(refusal),
         }
     }
+}
+
+// The book that a text writes, or why it writes none.
+fn book_of(text: &[u8]) -> Result<Book<'_>, Refusal>
+    ensures { IsBook text.now result }
+{
+    let mut draft = Draft::new();
+    draft.begin(text)?;
+    take_all(&mut draft)?;
+    Ok(draft.close())
 }
 
 /// Does something with the book of a file's text, and says whether all went well.
@@ -40,13 +45,11 @@ pub(crate) fn with_book<F: Fn(&Book<'_>) -> io::Result<bool>>(
             return Ok(false);
         }
     };
-    let mut draft = Draft::new();
-    let taken = draft
-        .begin(text.as_slice())
-        .and_then(|_| take_all(&mut draft));
-    if let Err(refusal) = taken {
-        eprintln!(rt; "{path}: {refusal}")?;
-        return Ok(false);
+    match book_of(text.as_slice()) {
+        Ok(book) => act(&book),
+        Err(refusal) => {
+            eprintln!(rt; "{path}: {refusal}")?;
+            Ok(false)
+        }
     }
-    act(&draft.close())
 }
