@@ -1,10 +1,11 @@
 -- What an atom is told as: its octets, and how far it reaches. Assumes nothing.
-use Rattle.std.proofs.Common.{◌≡◌, ℕ, ◌+◌, ◌-◌, ◌≤◌, Bool, true, false, ltb, List, [], ◌∷◌, length, get_or, take, drop, Some, None, Option, refl, sym, ap, ◌∙◌, arith, length-drop}
+use Rattle.std.proofs.Common.{◌≡◌, ◌≢◌, ℕ, ◌+◌, ◌-◌, ◌≤◌, Bool, true, false, ltb, List, [], ◌∷◌, length, get_or, take, drop, Some, None, Option, refl, sym, ap, ◌∙◌, arith, length-drop}
 use Rattle.std.specs.List.{slice_range}
-use Rattle.std.proofs.lemmas.Bool.{le-ltb, eq-eqb}
+use Rattle.std.proofs.lemmas.Bool.{le-ltb, eq-eqb, ne_eqb}
 use Rattle.std.proofs.lemmas.List.{length-append, take_all}
 use Rattle.sexp.specs.Grammar.{value}
-use Rattle.sexp.specs.Reading.{digits, behind, padded, string_at, string}
+use Rattle.sexp.specs.declared.refusals.Refusal.TheVariants.{Malformed}
+use Rattle.sexp.specs.Reading.{digits, behind, padded, string_at, string, fault}
 use Rattle.sexp.specs.Checks.{short_value}
 use Rattle.sexp.proofs.Lexing.{digits_behind}
 
@@ -38,3 +39,18 @@ pub atom_within : (at n : ℕ) (t ds rest : List ℕ) → at ≤ length t → ds
 atom_within at n t ds [] inside d b some fits = absurd (omega arith)
 atom_within at n t ds (o ∷ rest) inside d b some fits =
     omega (arith, inside, parts (drop at t), length-drop at t, ap length d, ap length b, fits, ap length (after_colon o rest))
+
+pub behind_within : (at : ℕ) (t r : List ℕ) → r ≡ behind (drop at t) → length r ≤ length t
+behind_within at t r b = omega (arith, parts (drop at t), length-drop at t, ap length b)
+
+-- the digits end where what stands behind them begins
+pub digits_end : (at : ℕ) (t r : List ℕ) → at ≤ length t → r ≡ behind (drop at t) → length t - length r ≡ at + length (digits (drop at t))
+digits_end at t r inside b = omega (arith, inside, parts (drop at t), length-drop at t, ap length b)
+
+-- an octet behind the digits that is no colon
+pub stray_told : (at n : ℕ) (t r : List ℕ) → at ≤ length t → r ≡ behind (drop at t) → padded (digits (drop at t)) ≡ false → Some n ≡ short_value (digits (drop at t)) → 1 ≤ length r → (get_or r 0 0 ≢ 58) → string_at (length t) at (digits (drop at t)) (behind (drop at t)) ≡ fault (Malformed (length t - length r))
+stray_told at n t [] inside b p v some stray = absurd (omega arith)
+stray_told at n t (o ∷ rest) inside b p v some stray =
+    let size = short_told (digits (drop at t)) n v in
+    ap (string_at (length t) at (digits (drop at t))) (sym b)
+    ∙ rw (p, size.0, ne_eqb o 58 stray, digits_end at t (o ∷ rest) inside b) refl

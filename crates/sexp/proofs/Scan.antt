@@ -1,53 +1,63 @@
 -- The digits at the front of a text, and what they write. Assumes nothing.
-use Rattle.std.proofs.Common.{◌≡◌, ℕ, ◌+◌, ◌-◌, ◌*◌, ◌<◌, ◌≤◌, true, false, not, cond, Bool, ltb, List, [], ◌∷◌, length, get_or, take, drop, Some, None, sym, refl, ap, ◌∙◌, ⊎_elim, arith}
-use Rattle.std.specs.Char.{is_ascii_digit}
-use Rattle.std.specs.List.{position, position_or_len}
-use Rattle.std.specs.Option.{unwrap_or}
-use Rattle.std.proofs.lemmas.Bool.{lt-ltb, le-ltb, cases_lt}
-use Rattle.std.proofs.lemmas.List.{drop_more, length-append, take_at, drop_at}
-use Rattle.std.proofs.lemmas.List.Recursion.{is_position_or_len}
+use Rattle.std.proofs.Common.{◌≡◌, ℕ, ◌+◌, ◌-◌, ◌*◌, ◌<◌, ◌≤◌, true, false, Bool, ◌&&◌, ◌==◌, List, [], ◌∷◌, length, get_or, take, drop, Some, None, sym, refl, ap, ◌∙◌, arith}
+use Rattle.std.proofs.lemmas.Bool.{lt-ltb, le-ltb}
+use Rattle.std.proofs.lemmas.List.{take_all}
 use Rattle.sexp.specs.Grammar.{value_after, value}
-use Rattle.sexp.specs.Reading.{is_digit, digits, behind}
+use Rattle.sexp.specs.Reading.{is_digit, digits, behind, padded}
 use Rattle.sexp.specs.Checks.{short_value}
-use Rattle.sexp.proofs.Lexing.{digits_behind}
-
--- where the digits at the front of a text end
-abbrev pub stop : List ℕ → ℕ
-stop t = unwrap_or (position (λ o. not (is_ascii_digit o)) t) (length t)
-
-reach : (t : List ℕ) → length (digits t) ≡ position_or_len (λ o. not (is_ascii_digit o)) t
-reach = is_position_or_len (λ t. length (digits t)) (λ o. not (is_ascii_digit o)) refl (λ o rest. one o rest (is_digit o) refl)
-  where
-    one : (o : ℕ) (rest : List ℕ) (b : Bool) → is_digit o ≡ b → length (digits (o ∷ rest)) ≡ cond (not (is_ascii_digit o)) 0 (1 + length (digits rest))
-    one o rest true e = rw (e, digits) (omega arith)
-    one o rest false e = rw (e, digits) refl
-
-reach_within : (t : List ℕ) → length (digits t) ≤ length t
-reach_within t = omega (arith, length-append (digits t) (behind t), ap length (digits_behind t))
-
-first_or : (n l : ℕ) → n ≤ l → unwrap_or (cond (ltb n l) (Some n) None) l ≡ n
-first_or n l h = ⊎_elim (λ lt. rw (lt-ltb n l lt) refl) (λ ge. rw (le-ltb n l ge) (omega arith)) (cases_lt n l)
-
-stop_is : (t : List ℕ) → stop t ≡ length (digits t)
-stop_is t = first_or (position_or_len (λ o. not (is_ascii_digit o)) t) (length t) (omega (arith, reach t, reach_within t)) ∙ sym (reach t)
-
-pub front_digits : (t : List ℕ) → take (stop t) t ≡ digits t
-front_digits t = ap (λ k. take k t) (stop_is t) ∙ sym (ap (take (length (digits t))) (digits_behind t)) ∙ take_at (digits t) (behind t) (length (digits t)) refl
-
-pub rest_behind : (t : List ℕ) → drop (stop t) t ≡ behind t
-rest_behind t = ap (λ k. drop k t) (stop_is t) ∙ sym (ap (drop (length (digits t))) (digits_behind t)) ∙ drop_at (digits t) (behind t) (length (digits t)) refl
 
 -- the value only grows with more digits
-value_grows : (n : ℕ) (ds : List ℕ) → n ≤ value_after n ds
+pub value_grows : (n : ℕ) (ds : List ℕ) → n ≤ value_after n ds
 value_grows n [] = omega arith
 value_grows n (d ∷ ds) = let more = value_grows (n * 10 + (d - 48)) ds in omega arith
 
--- the digits ds write what those to come write behind n
-abbrev pub Sofar : List ℕ → ℕ → List ℕ → Type 0
-Sofar ds n rest = (value ds ≡ value_after n rest) × (n ≤ 1024)
+-- the text t begins with digits that write n, and r stands behind them
+pub record Sofar (t r : List ℕ) (n : ℕ) : Type 0 where
+  pub worth : value (digits t) ≡ value_after n (digits r)
+  pub after : behind t ≡ behind r
+  pub small : n ≤ 1024
 
-pub too_long : (ds : List ℕ) (n i : ℕ) → Sofar ds n (drop i ds) → i < length ds → 1024 < n * 10 + (get_or ds i 0 - 48) → None ≡ short_value ds
-too_long ds n i h within big =
-    let e : value ds ≡ value_after (n * 10 + (get_or ds i 0 - 48)) (drop (i + 1) ds) = h.0 ∙ ap (value_after n) (drop_more ds i 0 within) in
-    let g = value_grows (n * 10 + (get_or ds i 0 - 48)) (drop (i + 1) ds) in
-    rw (lt-ltb 1024 (value ds) (omega arith)) refl
+-- what is left behind the first octet
+left : (o : ℕ) (r : List ℕ) → take (length (o ∷ r) - 1) (drop 1 (o ∷ r)) ≡ r
+left o r = take_all (length (o ∷ r) - 1) r (omega arith)
+
+-- one digit more
+worth_more : (t : List ℕ) (n o : ℕ) (r : List ℕ) → Sofar t (o ∷ r) n → is_digit o ≡ true → value (digits t) ≡ value_after (n * 10 + (o - 48)) (digits r)
+worth_more t n o r h e = h.worth ∙ rw (e, digits) refl
+
+pub one_more : (t r : List ℕ) (n : ℕ) → Sofar t r n → 1 ≤ length r → is_digit (get_or r 0 0) ≡ true → n * 10 + (get_or r 0 0 - 48) ≤ 1024 → Sofar t (take (length r - 1) (drop 1 r)) (n * 10 + (get_or r 0 0 - 48))
+one_more t [] n h some e small = absurd (omega arith)
+one_more t (o ∷ r) n h some e small = rw (left o r) (record { worth = worth_more t n o r h e; after = h.after ∙ rw (e, behind) refl; small = small })
+
+pub too_long : (t r : List ℕ) (n : ℕ) → Sofar t r n → 1 ≤ length r → is_digit (get_or r 0 0) ≡ true → 1024 < n * 10 + (get_or r 0 0 - 48) → None ≡ short_value (digits t)
+too_long t [] n h some e big = absurd (omega arith)
+too_long t (o ∷ r) n h some e big =
+    let w = worth_more t n o r h e in
+    let g = value_grows (n * 10 + (o - 48)) (digits r) in
+    rw (lt-ltb 1024 (value (digits t)) (omega arith)) refl
+
+-- the digits end
+ended : (t r : List ℕ) (n : ℕ) → Sofar t r n → digits r ≡ [] → behind r ≡ r → (Some n ≡ short_value (digits t)) × (r ≡ behind t)
+ended t r n h e b = (rw (h.worth ∙ ap (value_after n) e, le-ltb 1024 n h.small) refl, sym (h.after ∙ b))
+
+pub at_end : (t r : List ℕ) (n : ℕ) → Sofar t r n → length r ≡ 0 → (Some n ≡ short_value (digits t)) × (r ≡ behind t)
+at_end t [] n h e = ended t [] n h refl refl
+at_end t (o ∷ r) n h e = absurd (omega arith)
+
+pub at_other : (t r : List ℕ) (n : ℕ) → Sofar t r n → 1 ≤ length r → is_digit (get_or r 0 0) ≡ false → (Some n ≡ short_value (digits t)) × (r ≡ behind t)
+at_other t [] n h some e = absurd (omega arith)
+at_other t (o ∷ r) n h some e = ended t (o ∷ r) n h (rw (e, digits) refl) (rw (e, behind) refl)
+
+-- a text of less than two octets begins with no several digits
+and_no : (b : Bool) → false ≡ (b && false)
+and_no true = refl
+and_no false = refl
+
+pub padded_short : (t : List ℕ) → length t < 2 → false ≡ padded (digits t)
+padded_short [] h = refl
+padded_short (o ∷ []) h = go (is_digit o) refl
+  where
+    go : (b : Bool) → is_digit o ≡ b → false ≡ padded (digits (o ∷ []))
+    go true e = rw (e, digits) (and_no (o == 48))
+    go false e = rw (e, digits) refl
+padded_short (o ∷ p ∷ r) h = absurd (omega arith)

@@ -1,4 +1,4 @@
-//! The reader: over a text from left to right, with a stack as deep as the text's lists.
+//! The reader: one pass over a text, with a stack as deep as the text's lists.
 ghost use Rattle.std.specs.Prelude.{◌≡◌, ◌≤◌, false};
 ghost use Rattle.sexp.specs.Checks.{Finds};
 ghost use Rattle.sexp.specs.Laws.{answer, AcceptedExactlyCanonical, RefusedAsListed};

@@ -1,6 +1,9 @@
-use Rattle.std.proofs.Common.{drop}
+use Rattle.std.proofs.Common.{length}
 use Rattle.sexp.proofs.Scan.{Sofar}
 use Rattle.sexp.proofs.tokens.length_of.Given as goal
 
-abbrev pub invariant-loop-digit : goal.invariant-loop-digit
-invariant-loop-digit l = Sofar l.digits l.value (drop l.digit-index l.digits)
+abbrev pub invariant-loop-rest : goal.invariant-loop-rest
+invariant-loop-rest l = Sofar l.text l.rest l.length
+
+abbrev pub decreases-loop-rest : goal.decreases-loop-rest
+decreases-loop-rest l = length l.rest
