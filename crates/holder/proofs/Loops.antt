@@ -3,10 +3,11 @@ use Rattle.std.proofs.Common.{◌≡◌, ℕ, ◌+◌, ◌-◌, ◌<◌, ◌≤�
 use borrow.Rule.Slice.PartMut.{put_mid, mid_of}
 use Rattle.sexp.specs.Elements.{depth}
 use Rattle.sexp.specs.Text.{text}
-use Rattle.holder.specs.Placed.{Placed, nothing, atom_at, list_at, erase, inside, behind, IsList}
+use Rattle.holder.specs.Placed.{Placed, nothing, atom_at, list_at, erase, inside, behind, Stands, IsList}
 use Rattle.holder.specs.Walks.{first_of, put_front, Limited}
 use Rattle.holder.proofs.Puts.{put_then, put_octet}
 use Rattle.holder.proofs.Texts.{text_first, text_list, text_most}
+use Rattle.holder.proofs.Walk.{list_stands}
 
 -- between two elements of the list r: those left are less deep than it, and their octets and those counted so far are those of its text
 pub record Counted (r left : Placed) (total : ℕ) : Type 0 where
@@ -21,16 +22,16 @@ pub record Putting (r left : Placed) (at : ℕ) (old out : List ℕ) : Type 0 wh
   pub put : out ≡ put_front done old
   pub whole : done ++ (text (erase left) ++ (41 ∷ [])) ≡ text (first_of r)
 
-length_first : (r : Placed) → length (text (erase r)) ≡ length (text (first_of r)) + length (text (erase (behind r)))
+pub length_first : (r : Placed) → length (text (erase r)) ≡ length (text (first_of r)) + length (text (erase (behind r)))
 length_first r = ap length (text_first r) ∙ length-append (text (first_of r)) (text (erase (behind r)))
 
-length_list : (r : Placed) → IsList r → length (text (first_of r)) ≡ 2 + length (text (erase (inside r)))
+pub length_list : (r : Placed) → IsList r → length (text (first_of r)) ≡ 2 + length (text (erase (inside r)))
 length_list r s = rw (text_list r s) (simp length-append (omega arith))
 
--- a list is deeper than what it holds
-depth_inside : (r : Placed) → IsList r → depth (erase (inside r)) < depth (first_of r)
+-- an element is deeper than what it holds
+pub depth_inside : (r : Placed) → Stands r → depth (erase (inside r)) < depth (first_of r)
 depth_inside nothing s = absurd s
-depth_inside (atom_at p a es) s = absurd s
+depth_inside (atom_at p a es) s = omega arith
 depth_inside (list_at p inner es) s = omega arith
 
 depth_behind : (r : Placed) → depth (erase (behind r)) ≤ depth (erase r)
@@ -39,7 +40,7 @@ depth_behind (atom_at p a es) = omega arith
 depth_behind (list_at p inner es) = omega arith
 
 pub counted_none : (r left : Placed) → IsList r → left ≡ inside r → Counted r left 2
-counted_none r left s is = record { shallow = rw is (depth_inside r s); octets = rw is (sym (length_list r s)) }
+counted_none r left s is = record { shallow = rw is (depth_inside r (list_stands r s)); octets = rw is (sym (length_list r s)) }
 
 pub counted_more : (r left e next : Placed) (total x : ℕ) → Counted r left total → left ≡ e → x ≡ length (text (first_of e)) → next ≡ behind e → Counted r next (total + x)
 counted_more r left e next total x so_far is counted after =
@@ -51,7 +52,7 @@ counted_more r left e next total x so_far is counted after =
 pub counted_most : (r left e : Placed) (total x : ℕ) → Limited (erase r) → Counted r left total → left ≡ e → x ≡ length (text (first_of e)) → total + x ≤ 4218880
 counted_most r left e total x limits so_far is counted =
     let octets : total + length (text (erase e)) ≡ length (text (first_of r)) = rw is at so_far.octets in
-    omega (arith, text_most r limits, length_first e)
+    omega (arith, text_most (erase r) limits, length_first r, length_first e)
 
 pub putting_none : (r left : Placed) (old : List ℕ) → IsList r → left ≡ inside r → length (text (first_of r)) ≤ length old → Putting r left 1 old (set old 0 40)
 putting_none r left old s is room =

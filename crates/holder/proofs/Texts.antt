@@ -29,6 +29,6 @@ length_text_most (list inner es) s =
     let j = length_text_most es s.1 in
     rw (text_front inner (41 ∷ text_then es [])) (simp length-append (omega arith))
 
--- so that of an element of a record has at most 1,030 for each of 4,096 elements
-pub text_most : (r : Placed) → Limited (erase r) → length (text (first_of r)) ≤ 4218880
-text_most r h = omega (arith, length_text_most (erase r) h.short, ap length (text_first r), length-append (text (first_of r)) (text (erase (behind r))), h.few)
+-- so that of a run of a record's elements has at most 1,030 for each of 4,096
+pub text_most : (es : Elements) → Limited es → length (text es) ≤ 4218880
+text_most es h = omega (arith, length_text_most es h.short, h.few)

@@ -1,7 +1,7 @@
 -- Every run of a lawful tree is found again at the place of its first element.
 use Rattle.std.proofs.Common.{◌≡◌, ℕ, ◌≤◌, eqb, ◌⊎◌, List, [], ◌∷◌, ◌++◌, length, Some, sym, refl, ◌∙◌, inl, inr, arith}
 use Rattle.std.proofs.lemmas.Bool.{eq-eqb, ne_eqb, cases_Bool}
-use Rattle.sexp.specs.Elements.{Atom, octets, count, ShortAtoms}
+use Rattle.sexp.specs.Elements.{Atom, octets, count, depth, ShortAtoms}
 use Rattle.holder.specs.Placed.{Placed, nothing, atom_at, list_at, erase, places, Absent, Apart, Meaning, ◌or_else◌, run_at, front, inside, behind, octets_of, Stands, IsList, IsAtom}
 use Rattle.holder.specs.Walks.{Limited}
 
@@ -150,6 +150,12 @@ part_count r _ whole = omega arith
 part_count r (atom_at p a es) (after h) = omega (arith, part_count r es h)
 part_count r (list_at p inner es) (within h) = omega (arith, part_count r inner h)
 part_count r (list_at p inner es) (later h) = omega (arith, part_count r es h)
+
+pub part_depth : (r t : Placed) → Part r t → depth (erase r) ≤ depth (erase t)
+part_depth r _ whole = omega arith
+part_depth r (atom_at p a es) (after h) = omega (arith, part_depth r es h)
+part_depth r (list_at p inner es) (within h) = omega (arith, part_depth r inner h)
+part_depth r (list_at p inner es) (later h) = omega (arith, part_depth r es h)
 
 pub part_short : (r t : Placed) → Part r t → ShortAtoms (erase t) → ShortAtoms (erase r)
 part_short r _ whole s = s

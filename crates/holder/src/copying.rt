@@ -2,7 +2,7 @@
 //! The calls nest as deep as the record's lists, and the elements of one list are passed by a loop.
 // Measuring and putting walk alike: one walk into a trait of sinks would need laws of its own for two short bodies.
 // Each passes the elements of a list by a `while let`: an iterator over them would need laws too.
-ghost use Rattle.std.specs.Prelude.{◌≡◌, ◌≤◌, length};
+ghost use Rattle.std.specs.Prelude.{◌≡◌, ◌≤◌, length, decimal};
 ghost use Rattle.sexp.specs.Text.{text};
 ghost use Rattle.holder.specs.Copies.{record_of, laying, laid, ReadingAndCopyingUndo};
 ghost use Rattle.holder.specs.Walks.{first_of, atom_text, put_front};
@@ -13,22 +13,52 @@ use itoa::Buffer;
 use sexp::reader::MOST_TEXT;
 use sexp::refusals::Refusal;
 
+// How many octets a number has in decimal. One digit is told, and put, without writing it out first: most atoms are short.
+fn number_length(number: usize) -> usize
+    ensures octets { result ≡ length (decimal number) }
+    ensures short { result ≤ 40 }
+{
+    match number {
+        0..=9 => 1,
+        _ => decimal::length(number),
+    }
+}
+
+// Puts a number in decimal at the front of an output, and tells its length.
+fn put_number(number: usize, output: &mut [u8]) -> usize
+    requires { length (decimal number) ≤ length output.old }
+    ensures end { result ≡ length (decimal number) }
+    ensures put { output.new ≡ put_front (decimal number) output.old }
+{
+    match number {
+        0..=9 => {
+            output[0] = b'0' + number as u8;
+            1
+        }
+        _ => {
+            let mut buffer = Buffer::new();
+            let digits = buffer.format(number).as_bytes();
+            output[..digits.len()].copy_from_slice(digits);
+            digits.len()
+        }
+    }
+}
+
 impl<H: Holder> Octets<'_, H> {
     // How many octets the atom's text has.
     fn text_length(&self) -> usize
         ensures { result ≡ length (atom_text self.now) }
     {
         let count = self.len();
-        decimal::length(count) + 1 + count
+        number_length(count) + 1 + count
     }
 
-    // Puts the octets at the front of an output.
-    fn put(&self, output: &mut [u8])
-        requires { length self.now ≤ length output.old }
-        ensures { output.new ≡ put_front self.now output.old }
+    // Puts the octets into a part of an output that is as long.
+    fn put(&self, part: &mut [u8])
+        requires { length self.now ≡ length part.old }
+        ensures { part.new ≡ self.now }
     {
-        let count = self.len();
-        for (index, octet) in output[..count].iter_mut().enumerate() {
+        for (index, octet) in part.iter_mut().enumerate() {
             *octet = self.at(index);
         }
     }
@@ -40,13 +70,11 @@ impl<H: Holder> Octets<'_, H> {
         ensures put { output.new ≡ put_front (atom_text self.now) output.old }
     {
         let count = self.len();
-        let mut buffer = Buffer::new();
-        let number = buffer.format(count).as_bytes();
-        let colon = number.len();
-        output[..colon].copy_from_slice(number);
+        let colon = put_number(count, output);
         output[colon] = b':';
-        self.put(&mut output[colon + 1..]);
-        colon + 1 + count
+        let end = colon + 1 + count;
+        self.put(&mut output[colon + 1..end]);
+        end
     }
 }
 

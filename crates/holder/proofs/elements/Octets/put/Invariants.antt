@@ -2,4 +2,4 @@ use Rattle.std.proofs.Common.{◌≡◌, ◌++◌, take, drop}
 use Rattle.holder.proofs.elements.Octets.put.Given as goal
 
 abbrev pub invariant-loop-index : goal.invariant-loop-index
-invariant-loop-index g l = l.octet-items ≡ take l.index l.self ++ drop l.index l.initial.octet-items
+invariant-loop-index g l = l.part ≡ take l.index l.self ++ drop l.index l.initial.part
